@@ -1,0 +1,2 @@
+//! Bytes in slices: parts, pieces laid over, words.
+pub mod slices;

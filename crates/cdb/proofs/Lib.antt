@@ -1,0 +1,17 @@
+pub mod TableLaw
+pub mod Pigeon
+pub mod Put
+pub mod Forward
+pub mod Owner
+pub mod Backward
+pub mod Lookup
+pub mod Exists
+pub mod Raw
+pub mod Placement
+pub mod FileProof
+pub mod FileLookup
+pub mod Hashes
+pub mod Members
+pub mod Slots
+pub mod ByTable
+pub mod OneVerdict

@@ -1,0 +1,2 @@
+//! Memory as a device.
+pub mod reading;
