@@ -26,5 +26,5 @@ take-laid xs p ys m h b = same-lists _ _ (search (needs, places)) (λ k d l. gri
 pub laid-bytes : (xs : List ℕ) (p : ℕ) (ys : List ℕ) → Bytes xs → Bytes ys → Bytes (laid xs p ys)
 laid-bytes xs p ys a b =
     all-append (λ n. n < 256) (take p xs) (ys ++ drop (length ys) (drop p xs)) (all-take (λ n. n < 256) p xs a)
-      (all-append (λ n. n < 256) ys (drop (length ys) (drop p xs)) b
-        (all-drop (λ n. n < 256) (length ys) (drop p xs) (all-drop (λ n. n < 256) p xs a)))
+    (all-append (λ n. n < 256) ys (drop (length ys) (drop p xs)) b
+    (all-drop (λ n. n < 256) (length ys) (drop p xs) (all-drop (λ n. n < 256) p xs a)))

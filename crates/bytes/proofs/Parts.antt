@@ -31,9 +31,10 @@ at-both f p xs ys h =
     let l : length (xs ++ ys) ≡ n + m = length-append xs ys in
     let e : A ++ B ≡ xs ++ ys = sym (take-add n m D) ∙ ap (λ k. take k D) (sym l) ∙ h in
     let fit = at-fits f p (xs ++ ys) h in
-    let a : length A ≡ n = length-take-le n D (rw (length-drop p f) (omega arith)) in
-    ( sym (take-at A B n a) ∙ ap (take n) e ∙ take-at xs ys n refl
-    , ap (take m) (sym (drop-drop n p f)) ∙ sym (drop-at A B n a) ∙ ap (drop n) e ∙ drop-at xs ys n refl)
+    let a : length A ≡ n = length-take-le n D (rw (length-drop p f) (omega arith)) in (
+      sym (take-at A B n a) ∙ ap (take n) e ∙ take-at xs ys n refl,
+      ap (take m) (sym (drop-drop n p f)) ∙ sym (drop-at A B n a) ∙ ap (drop n) e ∙ drop-at xs ys n refl,
+    )
 
 pub at-join : (f : List ℕ) (p : ℕ) (xs ys : List ℕ) → At f p xs → At f (p + length xs) ys → At f p (xs ++ ys)
 at-join f p xs ys a b =

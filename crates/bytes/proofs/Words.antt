@@ -45,7 +45,7 @@ word-made f bytes p l =
     let g0 : getD (drop p f) 0 0 ≡ getD f p 0 = getD-drop p f 0 0 ∙ ap (λ k. getD f k 0) (add-zero p) in
     first-four (drop p f) (rw (length-drop p f) (omega arith))
     ∙ rw (g0, getD-drop p f 1 0, getD-drop p f 2 0, getD-drop p f 3 0)
-        (sym (word-of (getD f p 0) (getD f (p + 1) 0) (getD f (p + 2) 0) (getD f (p + 3) 0) b0 (b 1 (omega arith)) (b 2 (omega arith)) (b 3 (omega arith))))
+    (sym (word-of (getD f p 0) (getD f (p + 1) 0) (getD f (p + 2) 0) (getD f (p + 3) 0) b0 (b 1 (omega arith)) (b 2 (omega arith)) (b 3 (omega arith))))
 
 byte-in : (f bytes : List ℕ) (p n i : ℕ) → bytes ≡ part f p n → i < n → getD bytes i 0 ≡ getD f (p + i) 0
 byte-in f bytes p n i e h = ap (λ (z : List ℕ). getD z i 0) e ∙ getD-take n (drop p f) i 0 h ∙ getD-drop p f i 0
@@ -54,7 +54,7 @@ byte-in f bytes p n i e h = ap (λ (z : List ℕ). getD z i 0) e ∙ getD-take n
 pub word-in : (f bytes : List ℕ) (p n i q : ℕ) → bytes ≡ part f p n → i + 4 ≤ n → q ≡ p + i → wordAt bytes i ≡ wordAt f q
 word-in f bytes p n i q e h z =
     let at : (j : ℕ) → j < 4 → getD bytes (i + j) 0 ≡ getD f (q + j) 0 =
-        λ j l. let s : p + (i + j) ≡ q + j = omega arith in byte-in f bytes p n (i + j) e (omega arith) ∙ ap (λ (k : ℕ). getD f k 0) s in
+    λ j l. let s : p + (i + j) ≡ q + j = omega arith in byte-in f bytes p n (i + j) e (omega arith) ∙ ap (λ (k : ℕ). getD f k 0) s in
     let b0 : getD bytes i 0 ≡ getD f q 0 = byte-in f bytes p n i e (omega arith) ∙ ap (λ (k : ℕ). getD f k 0) (sym z) in
     let b1 = at 1 (omega arith) in
     let b2 = at 2 (omega arith) in

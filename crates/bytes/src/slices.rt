@@ -21,7 +21,10 @@ pub fn word_at(bytes: &[u8], place: usize) -> u32
     requires { ⌜ place + 4 ≤ length (now bytes) ⌝ }
     ensures { λ r. ⌜ r ≡ wordAt (now (bytes .entry)) place ⌝ }
 {
-    bytes[place] as u32 + 256 * (bytes[place + 1] as u32 + 256 * (bytes[place + 2] as u32 + 256 * (bytes[place + 3] as u32)))
+    bytes[place] as u32
+        + 256
+            * (bytes[place + 1] as u32
+                + 256 * (bytes[place + 2] as u32 + 256 * (bytes[place + 3] as u32)))
 }
 
 /// The bytes of two words.

@@ -25,8 +25,8 @@ use Rattle.cdb.proofs.TableLaw.{PutsItem, FillsItems, start, put, InFile, Lawf
 mod-cases : (a n : ℕ) → a < n + n → (a % n ≡ a) ⊎ (a % n + n ≡ a)
 mod-cases a n l =
     ⊎-elim (λ b. inl (mod-eq-of-lt b))
-      (λ b. let d : a - n < n = omega arith in let e : a % n ≡ a - n = mod-eq-sub-mod b ∙ mod-eq-of-lt d in inr (omega arith))
-      (cases-lt a n)
+    (λ b. let d : a - n < n = omega arith in let e : a % n ≡ a - n = mod-eq-sub-mod b ∙ mod-eq-of-lt d in inr (omega arith))
+    (cases-lt a n)
 
 -- the slots counted from the slot e
 abbrev pub pos : ℕ → ℕ → ℕ → ℕ
@@ -42,9 +42,9 @@ pos-one n e o p le lo lp q =
 pub pos-all : (n e i : ℕ) → e < n → i < n → (o : ℕ) × (o < n) × (pos n e o ≡ i)
 pos-all n e i le li =
     ⊎-elim
-      (λ b. (i + n - e, omega arith, (let a = mod-cases (e + (i + n - e)) n (omega arith) in let c = mod-lt (e + (i + n - e)) {m = n} (omega arith) in omega arith)))
-      (λ b. (i - e, omega arith, (let a = mod-cases (e + (i - e)) n (omega arith) in let c = mod-lt (e + (i - e)) {m = n} (omega arith) in omega arith)))
-      (cases-lt i e)
+    (λ b. (i + n - e, omega arith, (let a = mod-cases (e + (i + n - e)) n (omega arith) in let c = mod-lt (e + (i + n - e)) {m = n} (omega arith) in omega arith)))
+    (λ b. (i - e, omega arith, (let a = mod-cases (e + (i - e)) n (omega arith) in let c = mod-lt (e + (i - e)) {m = n} (omega arith) in omega arith)))
+    (cases-lt i e)
 
 pub same-item : (q : ℕ) (xs : List Item) → InFile q xs → (x y : Item) → Has xs x → Has xs y → x .place ≡ y .place → x ≡ y
 same-item q xs f x y hx hy e =
@@ -52,11 +52,11 @@ same-item q xs f x y hx hy e =
     let at-y : getD xs (hy .0) x .place ≡ y .place = ap (λ (v : Item). v .place) (hy .2 x) in
     let one = at-most-one (y .place) q xs f in
     ⊎-elim
-      (λ same. sym (hx .2 x) ∙ ap (λ k. getD xs k x) same ∙ hy .2 x)
-      (λ o. ⊎-elim
-        (λ l. absurd (omega (arith, two (y .place) xs (hx .0) (hy .0) x l (hy .1) at-x at-y)))
-        (λ l. absurd (omega (arith, two (y .place) xs (hy .0) (hx .0) x l (hx .1) at-y at-x))) o)
-      (cases-order (hx .0) (hy .0))
+    (λ same. sym (hx .2 x) ∙ ap (λ k. getD xs k x) same ∙ hy .2 x)
+    (λ o. ⊎-elim
+    (λ l. absurd (omega (arith, two (y .place) xs (hx .0) (hy .0) x l (hy .1) at-x at-y)))
+    (λ l. absurd (omega (arith, two (y .place) xs (hy .0) (hx .0) x l (hx .1) at-y at-x))) o)
+    (cases-order (hx .0) (hy .0))
 
 pub above : (q : ℕ) (xs : List Item) → InFile q xs → All (λ y. q < y .place) xs
 above q [] f = tt
@@ -65,18 +65,19 @@ above q (x ∷ xs) f =
 
 differ : (q : ℕ) (xs : List Item) → InFile q xs → Differ xs
 differ q [] f = tt
-differ q (x ∷ xs) f =
-    ( all-weaker (λ y. x .place < y .place) (λ y. x ≡ y → ⊥) (λ y l e. let z = ap (λ (v : Item). v .place) e in omega arith) xs (above (x .place) xs (f .1))
-    , differ (x .place) xs (f .1))
+differ q (x ∷ xs) f = (
+  all-weaker (λ y. x .place < y .place) (λ y. x ≡ y → ⊥) (λ y l e. let z = ap (λ (v : Item). v .place) e in omega arith) xs (above (x .place) xs (f .1)),
+  differ (x .place) xs (f .1),
+)
 
 pairs-push : (R : Item → Item → Type 0) (xs : List Item) (x : Item) → Pairs R xs → ((y : Item) → Has xs y → R y x) → Pairs R (xs ++ x ∷ [])
 pairs-push R xs x h g i j d l m =
     let m2 : j < length xs + 1 = rw (length-push xs x) at m in
     ⊎-elim
-      (λ b. rw (getD-append-left xs (x ∷ []) d i (omega arith), getD-append-left xs (x ∷ []) d j b) (h i j d l b))
-      (λ b. let e : length xs ≡ j = omega arith in
-        rw (getD-append-left xs (x ∷ []) d i (omega arith), getD-push xs x d j e) (g (getD xs i d) (has-getD xs i d (omega arith))))
-      (cases-lt j (length xs))
+    (λ b. rw (getD-append-left xs (x ∷ []) d i (omega arith), getD-append-left xs (x ∷ []) d j b) (h i j d l b))
+    (λ b. let e : length xs ≡ j = omega arith in
+    rw (getD-append-left xs (x ∷ []) d i (omega arith), getD-push xs x d j e) (g (getD xs i d) (has-getD xs i d (omega arith))))
+    (cases-lt j (length xs))
 
 abbrev of : ℕ → ℕ → Slot
 of h n = record { hash = h; place = n }
@@ -98,9 +99,9 @@ count-less (a ∷ s) (suc i) l e =
     let n = countBy-le-length taken (a ∷ []) in
     let r = count-less s i (omega arith) e in
     ⊎-elim
-      (λ (t : taken a ≡ true). let n : _≡_ {A = ℕ} (cond (taken a) 1 0) 1 = cond-true (taken a) 1 0 t in omega arith)
-      (λ (t : taken a ≡ false). let n : _≡_ {A = ℕ} (cond (taken a) 1 0) 0 = cond-false (taken a) 1 0 t in omega arith)
-      (cases-bool (taken a))
+    (λ (t : taken a ≡ true). let n : _≡_ {A = ℕ} (cond (taken a) 1 0) 1 = cond-true (taken a) 1 0 t in omega arith)
+    (λ (t : taken a ≡ false). let n : _≡_ {A = ℕ} (cond (taken a) 1 0) 0 = cond-false (taken a) 1 0 t in omega arith)
+    (cases-bool (taken a))
 
 abbrev Kept : Item → Item → Type 0
 Kept a b = a .key ≡ b .key → a .place < b .place
@@ -128,30 +129,30 @@ module _ (items : List Item) (slots : List Slot) (f : InFile 0 items) (law : Law
       let o = r .0 in
       let lo : o < n = r .1 in
       let same : (i : ℕ) → spot slots x i ≡ pos n e (o + i) =
-            λ i. ap (λ m. (m + i) % n) (sym (r .2)) ∙ mod-add-mod (e + o) n i ∙ ap (λ m. m % n) (add-assoc e o i) in
+      λ i. ap (λ m. (m + i) % n) (sym (r .2)) ∙ mod-add-mod (e + o) n i ∙ ap (λ m. m % n) (add-assoc e o i) in
       let go : (o + j < n) ⊎ (n ≤ o + j) → o + j < n =
-            ⊎-elim (λ l. l)
-              (λ l.
-                let i = n - o in
-                let at-e : spot slots x i ≡ e = same i ∙ ap (λ m. (e + m) % n) (omega arith) ∙ add-mod-right e n ∙ mod-eq-of-lt le in
-                let fill : Filled slots (spot slots x i) =
-                      ⊎-elim (λ b. d .passed i b)
-                        (λ b. let ij : i ≡ j = omega arith in rw (ij, d .holds) (positive x h)) (cases-lt i j) in
-                absurd (not-both slots e (subst (Filled slots) at-e fill) free)) in
+      ⊎-elim (λ l. l)
+      (λ l.
+      let i = n - o in
+      let at-e : spot slots x i ≡ e = same i ∙ ap (λ m. (e + m) % n) (omega arith) ∙ add-mod-right e n ∙ mod-eq-of-lt le in
+      let fill : Filled slots (spot slots x i) =
+      ⊎-elim (λ b. d .passed i b)
+      (λ b. let ij : i ≡ j = omega arith in rw (ij, d .holds) (positive x h)) (cases-lt i j) in
+      absurd (not-both slots e (subst (Filled slots) at-e fill) free)) in
       (o, go (cases-lt (o + j) n), same)
 
   -- the start of the sweep
   sweep-none : Swept items slots e 0
   sweep-none =
-      record
-        { order = []
-        ; table = replicate (length slots) blank
-        ; fills = start
-        ; seen = λ o l. absurd (omega arith)
-        ; unseen = λ o l m. ap (λ (v : Slot). v .place) (getD-replicate (length slots) (pos (length slots) e o) blank blank (mod-lt (e + o) (omega arith)))
-        ; mine = λ x h. absurd (has-nil x h)
-        ; kept = λ i j d l m. absurd (omega arith)
-        }
+      record {
+        order = [];
+        table = replicate (length slots) blank;
+        fills = start;
+        seen = λ o l. absurd (omega arith);
+        unseen = λ o l m. ap (λ (v : Slot). v .place) (getD-replicate (length slots) (pos (length slots) e o) blank blank (mod-lt (e + o) (omega arith)));
+        mine = λ x h. absurd (has-nil x h);
+        kept = λ i j d l m. absurd (omega arith);
+      }
 
   module _ (k : ℕ) (lk : k < length slots) (w : Swept items slots e k) where
     hold : Held (length slots) (w .order) (w .table)
@@ -160,20 +161,20 @@ module _ (items : List Item) (slots : List Slot) (f : InFile 0 items) (law : Law
     -- an empty slot is passed over
     sweep-empty : Empty slots (pos (length slots) e k) → Swept items slots e (suc k)
     sweep-empty em =
-        record
-          { order = w .order
-          ; table = w .table
-          ; fills = w .fills
-          ; seen = λ o l. ⊎-elim (λ b. w .seen o b)
+        record {
+          order = w .order;
+          table = w .table;
+          fills = w .fills;
+          seen = λ o l. ⊎-elim (λ b. w .seen o b)
               (λ b. let q : o ≡ k = omega arith in
-                rw q
-                  (hold .clear (pos (length slots) e k) (w .unseen k (omega arith) lk)
-                    ∙ sym (blank-from (slot slots (pos (length slots) e k)) (law .clear (pos (length slots) e k) (mod-lt (e + k) (omega arith)) em) em)))
-              (cases-lt o k)
-          ; unseen = λ o l m. w .unseen o (omega arith) m
-          ; mine = λ x h. let r = w .mine x h in (r .0, r .1, omega (arith, r .2), r .3, r .4, r .5)
-          ; kept = w .kept
-          }
+              rw q
+              (hold .clear (pos (length slots) e k) (w .unseen k (omega arith) lk)
+              ∙ sym (blank-from (slot slots (pos (length slots) e k)) (law .clear (pos (length slots) e k) (mod-lt (e + k) (omega arith)) em) em)))
+              (cases-lt o k);
+          unseen = λ o l m. w .unseen o (omega arith) m;
+          mine = λ x h. let r = w .mine x h in (r .0, r .1, omega (arith, r .2), r .3, r .4, r .5);
+          kept = w .kept;
+        }
 
     module _ (x : Item) (hx : Has items x) (j : ℕ) (d : Distance slots x j) (at-k : spot slots x j ≡ pos (length slots) e k) where
       -- x goes to the slot k from e on
@@ -184,16 +185,16 @@ module _ (items : List Item) (slots : List Slot) (f : InFile 0 items) (law : Law
           let r = run x j hx d in
           let o = r .0 in
           let ok : o + j ≡ k = pos-one n e (o + j) k le (r .1) lk (sym (r .2 j) ∙ at-k) in
-          record
-            { distance = j
-            ; within = rw (hold .long) (d .within)
-            ; free = subst (Empty (w .table)) (sym (same j ∙ at-k)) (w .unseen k (omega arith) lk)
-            ; nearest = λ i l.
+          record {
+            distance = j;
+            within = rw (hold .long) (d .within);
+            free = subst (Empty (w .table)) (sym (same j ∙ at-k)) (w .unseen k (omega arith) lk);
+            nearest = λ i l.
                 let q : slot (w .table) (spot (w .table) x i) ≡ slot slots (spot slots x i) =
-                      ap (slot (w .table)) (same i ∙ r .2 i) ∙ w .seen (o + i) (omega arith) ∙ ap (slot slots) (sym (r .2 i)) in
-                rw q (d .passed i l)
-            ; after = refl
-            }
+                ap (slot (w .table)) (same i ∙ r .2 i) ∙ w .seen (o + i) (omega arith) ∙ ap (slot slots) (sym (r .2 i)) in
+                rw q (d .passed i l);
+            after = refl;
+          }
 
       -- an item of equal key that was put before stands before it in the file
       earlier : (y : Item) → Has (w .order) y → Kept y x
@@ -210,10 +211,10 @@ module _ (items : List Item) (slots : List Slot) (f : InFile 0 items) (law : Law
           let so : ry .0 + 0 ≡ rx .0 + 0 = pos-one n e (ry .0 + 0) (rx .0 + 0) le (omega (arith, ry .1)) (omega (arith, rx .1)) z in
           let nearer : jy < j = omega (arith, m .2) in
           ⊎-elim
-            (λ same. absurd (d .first jy nearer (ap (slot slots) (sym (spot-key slots y x key jy)) ∙ dy .holds ∙ (cc))))
-            (λ o. ⊎-elim (λ l. l)
-              (λ l. absurd (omega (arith, law .ordered y x jy j (m .0) hx (sym key) l dy d))) o)
-            (cases-order (y .place) (x .place))
+          (λ same. absurd (d .first jy nearer (ap (slot slots) (sym (spot-key slots y x key jy)) ∙ dy .holds ∙ (cc))))
+          (λ o. ⊎-elim (λ l. l)
+          (λ l. absurd (omega (arith, law .ordered y x jy j (m .0) hx (sym key) l dy d))) o)
+          (cases-order (y .place) (x .place))
 
       sweep-filled : Swept items slots e (suc k)
       unfolding puts
@@ -223,22 +224,22 @@ module _ (items : List Item) (slots : List Slot) (f : InFile 0 items) (law : Law
           let p = puts in
           let at-t : spot (w .table) x j ≡ pos n e k = spot-length slots (w .table) (hold .long) x j ∙ at-k in
           let other : (o : ℕ) → o < n → (o ≡ k → ⊥) → slot t (pos n e o) ≡ slot (w .table) (pos n e o) =
-                λ o l ne. put-other (w .table) x t p (pos n e o) (λ q. ne (pos-one n e o k le l lk (q ∙ at-t))) in
-          record
-            { order = w .order ++ x ∷ []
-            ; table = t
-            ; fills = put (w .fills) p
-            ; seen = λ o l. ⊎-elim (λ b. other o (omega arith) (λ q. omega arith) ∙ w .seen o b)
+          λ o l ne. put-other (w .table) x t p (pos n e o) (λ q. ne (pos-one n e o k le l lk (q ∙ at-t))) in
+          record {
+            order = w .order ++ x ∷ [];
+            table = t;
+            fills = put (w .fills) p;
+            seen = λ o l. ⊎-elim (λ b. other o (omega arith) (λ q. omega arith) ∙ w .seen o b)
                 (λ b. let q : o ≡ k = omega arith in
-                  rw q (ap (slot t) (sym at-t) ∙ put-new (w .table) x t p ∙ sym (d .holds) ∙ ap (slot slots) at-k))
-                (cases-lt o k)
-            ; unseen = λ o l m. rw (other o m (λ q. omega arith)) (w .unseen o (omega arith) m)
-            ; mine = λ y h. ⊎-elim
+                rw q (ap (slot t) (sym at-t) ∙ put-new (w .table) x t p ∙ sym (d .holds) ∙ ap (slot slots) at-k))
+                (cases-lt o k);
+            unseen = λ o l m. rw (other o m (λ q. omega arith)) (w .unseen o (omega arith) m);
+            mine = λ y h. ⊎-elim
                 (λ b. let r = w .mine y b in (r .0, r .1, omega (arith, r .2), r .3, r .4, r .5))
                 (λ q. subst (λ z. Has items z × (o : ℕ) × (o < suc k) × (i : ℕ) × Distance slots z i × (spot slots z i ≡ pos (length slots) e o)) q (hx, k, omega arith, j, d, at-k))
-                (has-push-cases (w .order) x y h)
-            ; kept = pairs-push Kept (w .order) x (w .kept) earlier
-            }
+                (has-push-cases (w .order) x y h);
+            kept = pairs-push Kept (w .order) x (w .kept) earlier;
+          }
 
   sweep : (k : ℕ) → k ≤ length slots → Swept items slots e k
   sweep zero l = sweep-none
@@ -246,11 +247,11 @@ module _ (items : List Item) (slots : List Slot) (f : InFile 0 items) (law : Law
       let lk : k < length slots = omega arith in
       let w = sweep k (omega arith) in
       ⊎-elim
-        (λ em. sweep-empty k lk w em)
-        (λ ne.
-          let r = owner items slots f law (pos (length slots) e k) (omega arith) in
-          sweep-filled k lk w (r .0) (r .1) (r .2) (r .3) (r .4))
-        (cases-eq (slot slots (pos (length slots) e k) .place) 0)
+      (λ em. sweep-empty k lk w em)
+      (λ ne.
+      let r = owner items slots f law (pos (length slots) e k) (omega arith) in
+      sweep-filled k lk w (r .0) (r .1) (r .2) (r .3) (r .4))
+      (cases-eq (slot slots (pos (length slots) e k) .place) 0)
 
   swept : (order : List Item) × Permitted items order × FillsItems (length slots) order slots
   swept =
@@ -258,30 +259,33 @@ module _ (items : List Item) (slots : List Slot) (f : InFile 0 items) (law : Law
       let w = sweep n (omega arith) in
       let h = held (λ x m. positive x (w .mine x m .0)) (w .fills) in
       let same : w .table ≡ slots =
-            ext-getD blank (w .table) slots (h .long)
-              (λ i l. let r = pos-all n e i le (omega (arith, h .long)) in
-                ap (slot (w .table)) (sym (r .2)) ∙ w .seen (r .0) (r .1) ∙ ap (slot slots) (r .2)) in
+      ext-getD blank (w .table) slots (h .long)
+      (λ i l. let r = pos-all n e i le (omega (arith, h .long)) in
+      ap (slot (w .table)) (sym (r .2)) ∙ w .seen (r .0) (r .1) ∙ ap (slot slots) (r .2)) in
       let count : countBy taken slots ≡ length (w .order) = subst (λ s. countBy taken s ≡ length (w .order)) same (h .count) in
       let each : (x : Item) → Has items x → Has (w .order) x =
-            λ x m.
-              let r = law .placed x m in
-              let q : slot (w .table) (spot slots x (r .0)) ≡ entry x = ap (λ s. slot s (spot slots x (r .0))) same ∙ r .1 .holds in
-              let o = h .whose (spot slots x (r .0)) (rw q (positive x m)) in
-              subst (Has (w .order))
-                (same-item 0 items f (o .0) x (w .mine (o .0) (o .1) .0) m (ap (λ (v : Slot). v .place) (sym (o .2) ∙ q))) (o .1) in
-      ( w .order
-      , record
-          { same = pigeon items (w .order) (differ 0 items f) (sym (law .counted) ∙ count) (all-weaker (Has items) (Has (w .order)) each items (all-has-itself items))
-          ; kept = w .kept
-          }
-      , subst (λ s. FillsItems n (w .order) s) same (w .fills))
+      λ x m.
+      let r = law .placed x m in
+      let q : slot (w .table) (spot slots x (r .0)) ≡ entry x = ap (λ s. slot s (spot slots x (r .0))) same ∙ r .1 .holds in
+      let o = h .whose (spot slots x (r .0)) (rw q (positive x m)) in
+      subst (Has (w .order))
+      (same-item 0 items f (o .0) x (w .mine (o .0) (o .1) .0) m (ap (λ (v : Slot). v .place) (sym (o .2) ∙ q))) (o .1) in (
+        w .order,
+        record {
+          same = pigeon items (w .order) (differ 0 items f) (sym (law .counted) ∙ count) (all-weaker (Has items) (Has (w .order)) each items (all-has-itself items));
+          kept = w .kept;
+        },
+        subst (λ s. FillsItems n (w .order) s) same (w .fills),
+      )
 
 pub backward : (items : List Item) (slots : List Slot) → InFile 0 items → LawfulTable items slots → Roomy (length items) (length slots) × ((order : List Item) × Permitted items order × FillsItems (length slots) order slots)
 backward items [] f law =
-    let none : items ≡ [] = nil-from-length items (sym (law .counted)) in
-    ( inr (sym (law .counted), refl)
-    , ([], record { same = rw none (Rattle.std.proofs.shelf.Sorted.shuffled-refl []); kept = λ i j d l m. absurd (omega arith) }, start))
+    let none : items ≡ [] = nil-from-length items (sym (law .counted)) in (
+      inr (sym (law .counted), refl),
+      ([], record { same = rw none (Rattle.std.proofs.shelf.Sorted.shuffled-refl []); kept = λ i j d l m. absurd (omega arith) }, start),
+    )
 backward items (a ∷ s) f law =
-    let r = law .room (omega arith) in
-    ( inl (omega (arith, law .counted, count-less (a ∷ s) (r .0) (r .1) (r .2)))
-    , swept items (a ∷ s) f law (r .0) (r .1) (r .2))
+    let r = law .room (omega arith) in (
+      inl (omega (arith, law .counted, count-less (a ∷ s) (r .0) (r .1) (r .2))),
+      swept items (a ∷ s) f law (r .0) (r .1) (r .2),
+    )

@@ -39,18 +39,19 @@ module _ (f : List ℕ) (rs : List Record) where
   table-lawful p t l =
       record {
         placed = λ x h. let r = of-table rs t x h in
-          let d = all-has (Rule4 f) (items 2048 rs) x (p .placed) (r .0) in
-          (d .0, subst (λ (u : ℕ). Distance (slotsIn f u) x (d .0)) (r .1) (d .1));
+            let d = all-has (Rule4 f) (items 2048 rs) x (p .placed) (r .0) in
+            (d .0, subst (λ (u : ℕ). Distance (slotsIn f u) x (d .0)) (r .1) (d .1));
         counted = p .counted t l;
         room = λ some.
-          let r = p .room t l (subst (λ (n : ℕ). 0 < n) (long-in t) some) in
-          (r .0, subst (λ (n : ℕ). r .0 < n) (sym (long-in t)) (r .1), r .2);
+            let r = p .room t l (subst (λ (n : ℕ). 0 < n) (long-in t) some) in
+            (r .0, subst (λ (n : ℕ). r .0 < n) (sym (long-in t)) (r .1), r .2);
         clear = λ i b e. p .clear t l i (subst (λ (n : ℕ). i < n) (long-in t) b) e;
         ordered = λ x y j k hx hy ke pl dx dy.
-          let rx = of-table rs t x hx in
-          let ry = of-table rs t y hy in
-          all-has (Rule8 f rs) (items 2048 rs) x (p .ordered) (rx .0) y j k (ry .0) ke pl
-            (subst (λ (u : ℕ). Distance (slotsIn f u) x j) (sym (rx .1)) dx) (subst (λ (u : ℕ). Distance (slotsIn f u) y k) (sym (ry .1)) dy) }
+            let rx = of-table rs t x hx in
+            let ry = of-table rs t y hy in
+            all-has (Rule8 f rs) (items 2048 rs) x (p .ordered) (rx .0) y j k (ry .0) ke pl
+            (subst (λ (u : ℕ). Distance (slotsIn f u) x j) (sym (rx .1)) dx) (subst (λ (u : ℕ). Distance (slotsIn f u) y k) (sym (ry .1)) dy);
+      }
 
   pub by-table : Lawful f rs → LawfulFile f rs
   by-table p =
@@ -63,7 +64,8 @@ module _ (f : List ℕ) (rs : List Record) where
         abut = λ t l. let z : t + 1 - 1 ≡ t = omega arith in H (t + 1) (omega arith) .abuts (omega arith) ∙ ap (ends f) z;
         last = H 255 (omega arith) .last refl;
         read = p .reads;
-        tables = table-lawful p }
+        tables = table-lawful p;
+      }
 
   module _ (q : LawfulFile f rs) where
     -- every table ends where the last does or before
@@ -76,28 +78,30 @@ module _ (f : List ℕ) (rs : List Record) where
 
     rule2 : Each (Rule2 f)
     rule2 t l = record {
-        first = λ z. rw z (q .first, q .within);
-        abuts = λ s. let z : t - 1 + 1 ≡ t = omega arith in
+      first = λ z. rw z (q .first, q .within);
+      abuts = λ s. let z : t - 1 + 1 ≡ t = omega arith in
           let a : position f (t - 1 + 1) ≡ ends f (t - 1) = q .abut (t - 1) (omega arith) in
           ap (position f) (sym z) ∙ a;
-        within = ends-below (255 - t) t (omega arith);
-        last = λ z. rw z (q .last) }
+      within = ends-below (255 - t) t (omega arith);
+      last = λ z. rw z (q .last);
+    }
 
     pub all-tables : Lawful f rs
     all-tables = record {
-        long = q .long;
-        entries = rule2;
-        reads = q .read;
-        placed = all-weaker (Has (items 2048 rs)) (Rule4 f)
+      long = q .long;
+      entries = rule2;
+      reads = q .read;
+      placed = all-weaker (Has (items 2048 rs)) (Rule4 f)
           (λ x h. q .tables (tableOf (x .key)) (table-below x) .placed x (in-table rs x h)) (items 2048 rs) (all-has-itself (items 2048 rs));
-        counted = λ t l. q .tables t l .counted;
-        room = λ t l some.
+      counted = λ t l. q .tables t l .counted;
+      room = λ t l some.
           let r = q .tables t l .room (subst (λ (n : ℕ). 0 < n) (sym (long-in t)) some) in
           (r .0, subst (λ (n : ℕ). r .0 < n) (long-in t) (r .1), r .2);
-        clear = λ t l i b e. q .tables t l .clear i (subst (λ (n : ℕ). i < n) (sym (long-in t)) b) e;
-        ordered = all-weaker (Has (items 2048 rs)) (Rule8 f rs)
+      clear = λ t l i b e. q .tables t l .clear i (subst (λ (n : ℕ). i < n) (sym (long-in t)) b) e;
+      ordered = all-weaker (Has (items 2048 rs)) (Rule8 f rs)
           (λ x hx y j k hy ke pl dx dy.
-            let same : tableOf (y .key) ≡ tableOf (x .key) = ap tableOf ke in
-            q .tables (tableOf (x .key)) (table-below x) .ordered x y j k (in-table rs x hx)
-              (subst (λ (t : ℕ). Has (belonging t rs) y) same (in-table rs y hy)) ke pl dx
-              (subst (λ (t : ℕ). Distance (slotsIn f t) y k) same dy)) (items 2048 rs) (all-has-itself (items 2048 rs)) }
+          let same : tableOf (y .key) ≡ tableOf (x .key) = ap tableOf ke in
+          q .tables (tableOf (x .key)) (table-below x) .ordered x y j k (in-table rs x hx)
+          (subst (λ (t : ℕ). Has (belonging t rs) y) same (in-table rs y hy)) ke pl dx
+          (subst (λ (t : ℕ). Distance (slotsIn f t) y k) same dy)) (items 2048 rs) (all-has-itself (items 2048 rs));
+    }

@@ -24,13 +24,13 @@ nearest s x zero j below l e =
     (set s (spot s x j) (entry x), record { distance = j; within = omega arith; free = subst (λ k. Empty s (spot s x k)) z e; nearest = below; after = refl })
 nearest s x (suc n) j below l e =
     ⊎-elim
-      (λ here. (set s (spot s x j) (entry x), record { distance = j; within = omega arith; free = here; nearest = below; after = refl }))
-      (λ ne.
-        let z : j + suc n ≡ suc j + n = omega arith in
-        nearest s x n (suc j)
-          (λ i m. ⊎-elim (λ (q : i ≡ j). subst (λ k. Filled s (spot s x k)) (sym q) (omega arith)) (λ nq. below i (omega arith)) (cases-eq i j))
-          (omega arith) (subst (λ k. Empty s (spot s x k)) z e))
-      (cases-eq (slot s (spot s x j) .place) 0)
+    (λ here. (set s (spot s x j) (entry x), record { distance = j; within = omega arith; free = here; nearest = below; after = refl }))
+    (λ ne.
+    let z : j + suc n ≡ suc j + n = omega arith in
+    nearest s x n (suc j)
+    (λ i m. ⊎-elim (λ (q : i ≡ j). subst (λ k. Filled s (spot s x k)) (sym q) (omega arith)) (λ nq. below i (omega arith)) (cases-eq i j))
+    (omega arith) (subst (λ k. Empty s (spot s x k)) z e))
+    (cases-eq (slot s (spot s x j) .place) 0)
 
 pub put-exists : (s : List Slot) (x : Item) → countBy taken s < length s → (t : List Slot) × PutsItem s x t
 put-exists s x l =
@@ -39,7 +39,7 @@ put-exists s x l =
     let o = pos-all n (home n (hashOf (x .key))) (e .0) (mod-lt _ (omega arith)) (e .1) in
     let z : o .0 ≡ 0 + o .0 = omega arith in
     nearest s x (o .0) 0 (λ i m. absurd (omega arith)) (omega (arith, o .1))
-      (subst (λ k. Empty s (spot s x k)) z (subst (Empty s) (sym (o .2)) (e .2)))
+    (subst (λ k. Empty s (spot s x k)) z (subst (Empty s) (sym (o .2)) (e .2)))
 
 -- goes on with a filling
 fills-more : (len : ℕ) (done todo : List Item) (s : List Slot) → ((x : Item) → Has (done ++ todo) x → 0 < x .place) → length done + length todo < len → FillsItems len done s → (t : List Slot) × FillsItems len (done ++ todo) t

@@ -26,18 +26,18 @@ kept-twice p q h [] = refl
 kept-twice p q h (x ∷ xs) =
     let r = kept-twice p q h xs in
     ⊎-elim
-      (λ (e : q x ≡ true). rw (cond-true (q x) (x ∷ kept-by q xs) (kept-by q xs) e) (ap (λ z. cond (p x) (x ∷ z) z) r))
-      (λ (e : q x ≡ false).
-        rw (cond-false (q x) (x ∷ kept-by q xs) (kept-by q xs) e)
-          (⊎-elim
-            (λ (b : p x ≡ true). absurd (both-ways (q x) e (h x b)))
-            (λ (b : p x ≡ false). rw (cond-false (p x) (x ∷ kept-by p xs) (kept-by p xs) b) r)
-            (cases-bool (p x))))
-      (cases-bool (q x))
+    (λ (e : q x ≡ true). rw (cond-true (q x) (x ∷ kept-by q xs) (kept-by q xs) e) (ap (λ z. cond (p x) (x ∷ z) z) r))
+    (λ (e : q x ≡ false).
+    rw (cond-false (q x) (x ∷ kept-by q xs) (kept-by q xs) e)
+    (⊎-elim
+    (λ (b : p x ≡ true). absurd (both-ways (q x) e (h x b)))
+    (λ (b : p x ≡ false). rw (cond-false (p x) (x ∷ kept-by p xs) (kept-by p xs) b) r)
+    (cases-bool (p x))))
+    (cases-bool (q x))
 
 pub file-lookup : (file : List ℕ) (rs : List Record) (law : LawfulFile file rs) (key : List ℕ) →
     Gives (belonging (tableOf key) rs) (slotsAt file (position file (tableOf key)) (slotCount file (tableOf key))) key 0
-      (kept-by (λ x. sameBytes (x .key) key) (items 2048 rs))
+    (kept-by (λ x. sameBytes (x .key) key) (items 2048 rs))
 file-lookup file rs law key =
     let t = tableOf key in
     let l : t < 256 = mod-lt (hashOf key) (omega arith) in
@@ -45,7 +45,7 @@ file-lookup file rs law key =
     let q : Item → Bool = λ x. eqb (hashOf (x .key) % 256) t in
     let same = kept-twice p q (λ x e. eq-eqb (hashOf (x .key) % 256) t (ap (λ k. hashOf k % 256) (sameBytes-decides (x .key) key .0 e))) (items 2048 rs) in
     subst (Gives (belonging t rs) (slotsAt file (position file t) (slotCount file t)) key 0) same
-      (lookup (belonging t rs) (slotsAt file (position file t) (slotCount file t)) (belonging-in-file t rs) (law .tables t l) key)
+    (lookup (belonging t rs) (slotsAt file (position file t) (slotCount file t)) (belonging-in-file t rs) (law .tables t l) key)
 
 abbrev rec : List ℕ → List ℕ → Record
 rec k d = record { key = k; data′ = d }

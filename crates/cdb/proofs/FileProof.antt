@@ -104,11 +104,11 @@ filling-small xs s f small fill =
     let back : (y : Item) → Has (fill .order) y → Has xs y = λ y h. has-shuffled (fill .order) xs y (shuffled-sym xs (fill .order) (fill .permitted .same)) h in
     let h = held (λ y m. all-has (λ z. 0 < z .place) xs y (all-positive 0 xs f) (back y m)) (fill .fills) in
     all-from-getD Small s blank
-      (λ i l. ⊎-elim
-        (λ e. rw (h .clear i e) (omega arith))
-        (λ ne. let r = h .whose i (omega arith) in
-          rw (r .2) (all-has (λ (y : Item). (hashOf (y .key) < 2 ^ 32) × (y .place < 2 ^ 32)) xs (r .0) small (back (r .0) (r .1))))
-        (cases-eq (slot s i .place) 0))
+    (λ i l. ⊎-elim
+    (λ e. rw (h .clear i e) (omega arith))
+    (λ ne. let r = h .whose i (omega arith) in
+    rw (r .2) (all-has (λ (y : Item). (hashOf (y .key) < 2 ^ 32) × (y .place < 2 ^ 32)) xs (r .0) small (back (r .0) (r .1))))
+    (cases-eq (slot s i .place) 0))
 
 lawful-from-made : (file : List ℕ) (rs : List Record) → Bytes file → length file < 2 ^ 32 → Made file rs → LawfulFile file rs
 unfolding fileOf
@@ -130,28 +130,28 @@ lawful-from-made file rs bytes short m =
     let pos0 : position file 0 ≡ p = pos 0 (omega arith) ∙ starts-zero p ss in
     let rec : Records file 2048 (position file 0) rs = records-read file 2048 (position file 0) rs (omega arith) (b .0) (sym pos0) in
     let small = items-small file bytes 2048 (position file 0) rs (omega arith) rec in
-    record
-      { long = omega arith
-      ; first = omega arith
-      ; within = omega arith
-      ; abut = λ t l. let nxt = starts-next p ss t (omega (arith, m .count)) in
-          pos (t + 1) (omega arith) ∙ ap (starts p ss) (omega arith) ∙ nxt ∙ rw (pos t (omega arith), cnt t (omega arith))
-      ; last =
+    record {
+      long = omega arith;
+      first = omega arith;
+      within = omega arith;
+      abut = λ t l. let nxt = starts-next p ss t (omega (arith, m .count)) in
+          pos (t + 1) (omega arith) ∙ ap (starts p ss) (omega arith) ∙ nxt ∙ rw (pos t (omega arith), cnt t (omega arith));
+      last =
           let nxt = starts-next p ss 255 (omega (arith, m .count)) in
           let end : starts p ss 256 ≡ p + length T = ap (starts p ss) (sym (m .count)) ∙ starts-end p ss in
-          omega (arith, pos 255 (omega arith), cnt 255 (omega arith))
-      ; read = rec
-      ; tables = λ t l.
+          omega (arith, pos 255 (omega arith), cnt 255 (omega arith));
+      read = rec;
+      tables = λ t l.
           let xs = belonging t rs in
           let s = getD ss t [] in
           let fill = items-filling xs s (m .filled t l) in
           let inf = belonging-in-file t rs in
           let sm = filling-small xs s inf (all-kept-by (λ x. eqb (hashOf (x .key) % 256) t) (λ (y : Item). (hashOf (y .key) < 2 ^ 32) × (y .place < 2 ^ 32)) (items 2048 rs) small) fill in
           let same : slotsAt file (position file t) (slotCount file t) ≡ s =
-                ap (λ n. slotsAt file n (slotCount file t)) (pos t l) ∙ ap (slotsAt file (starts p ss t)) (cnt t l)
-                ∙ slots-read file (starts p ss t) s sm (tables-at file p ss (b .1) t (omega (arith, m .count))) in
-          rw same (forward xs s inf (fill .roomy) (fill .order) (fill .permitted) (fill .fills))
-      }
+          ap (λ n. slotsAt file n (slotCount file t)) (pos t l) ∙ ap (slotsAt file (starts p ss t)) (cnt t l)
+          ∙ slots-read file (starts p ss t) s sm (tables-at file p ss (b .1) t (omega (arith, m .count))) in
+          rw same (forward xs s inf (fill .roomy) (fill .order) (fill .permitted) (fill .fills));
+    }
 
 -- the tables from table t on, n of them
 tables-of : List ℕ → ℕ → ℕ → List (List Slot)
@@ -178,10 +178,11 @@ module _ (f : List ℕ) (rs : List Record) (bytes : Bytes f) (law : LawfulFile f
   starts-more : (t p : ℕ) → t < 256 → Starts f t p → Starts f (t + 1) (p + 8 * length (slotsAt f (position f t) (slotCount f t)))
   starts-more t p l h =
       let len = length-slotsAt f (position f t) (slotCount f t) in
-      let here = h .0 l in
-      ( (λ m. let z = law .abut t (omega arith) in omega arith)
-      , (λ e. let q : t ≡ 255 = omega arith in
-          let z : position f t + 8 * slotCount f t ≡ length f = rw q (law .last) in omega arith))
+      let here = h .0 l in (
+        (λ m. let z = law .abut t (omega arith) in omega arith),
+        (λ e. let q : t ≡ 255 = omega arith in
+            let z : position f t + 8 * slotCount f t ≡ length f = rw q (law .last) in omega arith),
+      )
 
   tables-total : (n t p : ℕ) → t + n ≡ 256 → Starts f t p → p + length (joined tableBytes (tables-of f t n)) ≡ length f
   unfolding tables-of
@@ -203,7 +204,7 @@ module _ (f : List ℕ) (rs : List Record) (bytes : Bytes f) (law : LawfulFile f
       let tb : p + 8 * length s ≡ p + length (tableBytes s) = ap (λ k. p + k) (sym (length-tableBytes s)) in
       let head : At f p (tableBytes s) = subst (λ k. At f k (tableBytes s)) (sym here) (slots-made f bytes (position f t) (slotCount f t) (omega arith)) in
       at-join f p (tableBytes s) (joined tableBytes (tables-of f (t + 1) n)) head
-        (subst (λ k. At f k (joined tableBytes (tables-of f (t + 1) n))) tb (tables-made n (t + 1) (p + 8 * length s) (omega arith) more))
+      (subst (λ k. At f k (joined tableBytes (tables-of f (t + 1) n))) tb (tables-made n (t + 1) (p + 8 * length s) (omega arith) more))
 
   header-made : (n t p : ℕ) → t + n ≡ 256 → Starts f t p → At f (8 * t) (header p (tables-of f t n))
   unfolding tables-of
@@ -217,9 +218,9 @@ module _ (f : List ℕ) (rs : List Record) (bytes : Bytes f) (law : LawfulFile f
       let w1 : At f (8 * t + 4) (word (length s)) = subst (λ k. At f (8 * t + 4) (word k)) len (word-made f bytes (8 * t + 4) (omega arith)) in
       let next : 8 * (t + 1) ≡ 8 * t + 8 = omega arith in
       at-join f (8 * t) (word p ++ word (length s)) (header (p + 8 * length s) (tables-of f (t + 1) n))
-        (at-join f (8 * t) (word p) (word (length s)) w0 w1)
-        (subst (λ k. At f k (header (p + 8 * length s) (tables-of f (t + 1) n))) next
-          (header-made n (t + 1) (p + 8 * length s) (omega arith) (starts-more t p (omega arith) h)))
+      (at-join f (8 * t) (word p) (word (length s)) w0 w1)
+      (subst (λ k. At f k (header (p + 8 * length s) (tables-of f (t + 1) n))) next
+      (header-made n (t + 1) (p + 8 * length s) (omega arith) (starts-more t p (omega arith) h)))
 
 made-from-lawful : (file : List ℕ) (rs : List Record) → Bytes file → LawfulFile file rs → Made file rs
 unfolding fileOf
@@ -237,20 +238,20 @@ made-from-lawful file rs bytes law =
     let lh0 : 2048 ≡ 0 + length H = omega arith in
     let total = tables-total file rs bytes law 256 0 p (omega arith) st in
     let all : At file 0 (H ++ (R ++ T)) =
-          at-join file 0 H (R ++ T) ah (subst (λ n. At file n (R ++ T)) lh0 (at-join file 2048 R T (rec .0) at)) in
+    at-join file 0 H (R ++ T) ah (subst (λ n. At file n (R ++ T)) lh0 (at-join file 2048 R T (rec .0) at)) in
     let len : length (H ++ (R ++ T)) ≡ length file = length-append H (R ++ T) ∙ omega (arith, length-append R T) in
-    record
-      { tables = ss
-      ; count = length-tables-of file 0 256
-      ; bytes = at-whole file (H ++ (R ++ T)) all len
-      ; filled = λ t l.
+    record {
+      tables = ss;
+      count = length-tables-of file 0 256;
+      bytes = at-whole file (H ++ (R ++ T)) all len;
+      filled = λ t l.
           let s = slotsAt file (position file t) (slotCount file t) in
           let z : 0 + t ≡ t = omega arith in
           let same : getD ss t [] ≡ s = getD-tables-of file 0 256 t l ∙ ap (λ k. slotsAt file (position file k) (slotCount file k)) z in
           let r = backward (belonging t rs) s (belonging-in-file t rs) (law .tables t l) in
           subst (Filling (belonging t rs)) (sym same)
-            (raw-filling (belonging t rs) s (record { roomy = r .0; order = r .1 .0; permitted = r .1 .1; fills = r .1 .2 }))
-      }
+          (raw-filling (belonging t rs) s (record { roomy = r .0; order = r .1 .0; permitted = r .1 .1; fills = r .1 .2 }));
+    }
 
 pub file-sound : (file : List ℕ) (rs : List Record) → Bytes file → length file < 2 ^ 32 → LawfulFile file rs ↔ Made file rs
 file-sound file rs bytes short = (made-from-lawful file rs bytes, lawful-from-made file rs bytes short)

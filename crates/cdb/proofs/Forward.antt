@@ -27,7 +27,7 @@ taken e = ltb 0 (e .place)
 blank-slot : (len i : ℕ) → slot (replicate len blank) i ≡ blank
 blank-slot len i =
     ⊎-elim (λ l. getD-replicate len i blank blank l)
-      (λ l. getD-past (replicate len blank) i blank (rw (length-replicate len blank) l)) (cases-lt i len)
+    (λ l. getD-past (replicate len blank) i blank (rw (length-replicate len blank) l)) (cases-lt i len)
 
 blank-count : (len : ℕ) → countBy taken (replicate len blank) ≡ 0
 blank-count zero = refl
@@ -42,28 +42,27 @@ pub record Held (len : ℕ) (order : List Item) (s : List Slot) : Type 0 where
 
 held-put : {len : ℕ} {order : List Item} {s t : List Slot} {x : Item} → 0 < x .place → Held len order s → PutsItem s x t → Held len (order ++ x ∷ []) t
 held-put {len} {order} {s} {t} {x} pos h p =
-    record
-      { long = put-length s x t p ∙ h .long
-      ; whose = λ i f. ⊎-elim
+    record {
+      long = put-length s x t p ∙ h .long;
+      whose = λ i f. ⊎-elim
           (λ e. (x, has-push order x, rw e (put-new s x t p)))
           (λ n. let q = put-other s x t p i n in let r = h .whose i (rw (← q) f) in (r .0, has-append-left order (x ∷ []) (r .0) (r .1), q ∙ r .2))
-          (cases-eq i (spot s x (p .distance)))
-      ; count = rw (put-count s x t p pos, h .count, length-push order x)
-      ; clear = λ i f. ⊎-elim
+          (cases-eq i (spot s x (p .distance)));
+      count = rw (put-count s x t p pos, h .count, length-push order x);
+      clear = λ i f. ⊎-elim
           (λ e. absurd (let z : x .place ≡ 0 = ap (λ (v : Slot). v .place) (sym (put-new s x t p)) ∙ subst (Empty t) e f in omega arith))
           (λ n. let q = put-other s x t p i n in q ∙ h .clear i (rw (← q) f))
-          (cases-eq i (spot s x (p .distance)))
-      }
-
+          (cases-eq i (spot s x (p .distance)));
+    }
 
 pub held : {len : ℕ} {order : List Item} {s : List Slot} → ((x : Item) → Has order x → 0 < x .place) → FillsItems len order s → Held len order s
 held {len} pos start =
-    record
-      { long = length-replicate len blank
-      ; whose = λ i f. absurd (not-both (replicate len blank) i f (ap (λ (v : Slot). v .place) (blank-slot len i)))
-      ; count = blank-count len
-      ; clear = λ i e. blank-slot len i
-      }
+    record {
+      long = length-replicate len blank;
+      whose = λ i f. absurd (not-both (replicate len blank) i f (ap (λ (v : Slot). v .place) (blank-slot len i)));
+      count = blank-count len;
+      clear = λ i e. blank-slot len i;
+    }
 held {len} pos (put {order} {s} {t} {x} f p) =
     held-put (pos x (has-push order x)) (held (λ y h. pos y (has-append-left order (x ∷ []) y h)) f) p
 
@@ -95,35 +94,35 @@ module _ (len : ℕ) (order : List Item) (s t : List Slot) (x : Item) (pos : (y 
   new : Distance t x (p .distance)
   new =
       put-stands s x t p
-        (λ i f e. let r = h .whose i f in b (r .0) (r .1) .0 (ap (λ (v : Slot). v .place) (sym (r .2)) ∙ e))
+      (λ i f e. let r = h .whose i f in b (r .0) (r .1) .0 (ap (λ (v : Slot). v .place) (sym (r .2)) ∙ e))
 
   old : (y : Item) → Has order y → (j : ℕ) × Distance s y j × Distance t y j
   old y m = let r = g .placed y m in (r .0, r .1, put-keeps s x t p y (r .0) (pos y m) (r .1))
 
   stands-put : Stands (order ++ x ∷ []) t
   stands-put =
-      record
-        { placed = λ y m. ⊎-elim (λ o. let r = old y o in (r .0, r .2)) (λ e. (p .distance, subst (λ z. Distance t z (p .distance)) e new)) (has-push-cases order x y m)
-        ; ordered = λ u v j k mu mv e l du dv. ⊎-elim
+      record {
+        placed = λ y m. ⊎-elim (λ o. let r = old y o in (r .0, r .2)) (λ e. (p .distance, subst (λ z. Distance t z (p .distance)) e new)) (has-push-cases order x y m);
+        ordered = λ u v j k mu mv e l du dv. ⊎-elim
             (λ ou. ⊎-elim
-              (λ ov.
-                let ru = old u ou in
-                let rv = old v ov in
-                let a = distance-one du (ru .2) in
-                let c = distance-one dv (rv .2) in
-                let z = g .ordered u v (ru .0) (rv .0) ou ov e l (ru .1) (rv .1) in omega arith)
-              (λ ev. absurd (let w = b u ou .1 (rw ev (sym e)) in let w2 : u .place < v .place = rw ev at w in omega arith))
-              (has-push-cases order x v mv))
+            (λ ov.
+            let ru = old u ou in
+            let rv = old v ov in
+            let a = distance-one du (ru .2) in
+            let c = distance-one dv (rv .2) in
+            let z = g .ordered u v (ru .0) (rv .0) ou ov e l (ru .1) (rv .1) in omega arith)
+            (λ ev. absurd (let w = b u ou .1 (rw ev (sym e)) in let w2 : u .place < v .place = rw ev at w in omega arith))
+            (has-push-cases order x v mv))
             (λ eu. ⊎-elim
-              (λ ov.
-                let rv = old v ov in
-                let a = distance-one (subst (λ z. Distance t z j) (sym eu) du) new in
-                let c = distance-one dv (rv .2) in
-                let z = put-farther s x t p v (rv .0) (rw eu e) (rv .1) in omega arith)
-              (λ ev. absurd (let w : u .place ≡ v .place = rw (← eu, ← ev) in omega arith))
-              (has-push-cases order x v mv))
-            (has-push-cases order x u mu)
-        }
+            (λ ov.
+            let rv = old v ov in
+            let a = distance-one (subst (λ z. Distance t z j) (sym eu) du) new in
+            let c = distance-one dv (rv .2) in
+            let z = put-farther s x t p v (rv .0) (rw eu e) (rv .1) in omega arith)
+            (λ ev. absurd (let w : u .place ≡ v .place = rw (← eu, ← ev) in omega arith))
+            (has-push-cases order x v mv))
+            (has-push-cases order x u mu);
+      }
 
 pub stands : {len : ℕ} {order : List Item} {s : List Slot} → ((x : Item) → Has order x → 0 < x .place) → Pairs Before order → FillsItems len order s → Stands order s
 stands {len} pos ps start =
@@ -131,7 +130,7 @@ stands {len} pos ps start =
 stands {len} pos ps (put {order} {s} {t} {x} f p) =
     let pos′ : (y : Item) → Has order y → 0 < y .place = λ y h. pos y (has-append-left order (x ∷ []) y h) in
     stands-put len order s t x pos′ (pos x (has-push order x)) (held pos′ f) (stands pos′ (pairs-front Before order x ps) f) p
-      (pairs-last Before order x ps)
+    (pairs-last Before order x ps)
 
 -- how many items of a list have the place p
 abbrev pub at-place : ℕ → Item → ℕ
@@ -154,10 +153,10 @@ pub at-most-one : (p q : ℕ) (xs : List Item) → InFile q xs → sumBy (at-pla
 at-most-one p q [] h = omega arith
 at-most-one p q (x ∷ xs) h =
     rw (sumBy-cons (at-place p) x xs)
-      (⊎-elim
-        (λ e. let a = at-place-yes p x e in let r = none-below p (x .place) xs (h .1) (omega arith) in omega arith)
-        (λ n. let a = at-place-no p x n in let r = at-most-one p (x .place) xs (h .1) in omega arith)
-        (cases-eq (x .place) p))
+    (⊎-elim
+    (λ e. let a = at-place-yes p x e in let r = none-below p (x .place) xs (h .1) (omega arith) in omega arith)
+    (λ n. let a = at-place-no p x n in let r = at-most-one p (x .place) xs (h .1) in omega arith)
+    (cases-eq (x .place) p))
 
 pub two : (p : ℕ) (xs : List Item) (i j : ℕ) (d : Item) → i < j → j < length xs → getD xs i d .place ≡ p → getD xs j d .place ≡ p → 2 ≤ sumBy (at-place p) xs
 two p xs i j d l m ei ej =
@@ -169,17 +168,18 @@ two p xs i j d l m ei ej =
     let fi : at-place p (getD (take (suc i) xs) i d) ≡ 1 = at-place-yes p (getD (take (suc i) xs) i d) (rw (getD-take (suc i) xs i d (omega arith)) ei) in
     let s : suc i + (j - suc i) ≡ j = omega arith in
     let fj : at-place p (getD (drop (suc i) xs) (j - suc i) d) ≡ 1 =
-          at-place-yes p (getD (drop (suc i) xs) (j - suc i) d) (rw (getD-drop (suc i) xs (j - suc i) d, s) ej) in
+    at-place-yes p (getD (drop (suc i) xs) (j - suc i) d) (rw (getD-drop (suc i) xs (j - suc i) d, s) ej) in
     omega arith
 
 before : (items order : List Item) → InFile 0 items → Permitted items order → Pairs Before order
-before items order f m i j d l k =
-    ( (λ e.
-        let p = getD order j d .place in
-        let a = two p order i j d l k e refl in
-        let b = at-most-one p 0 items f in
-        let c = sumBy-shuffled (at-place p) items order (m .same) in omega arith)
-    , m .kept i j d l k)
+before items order f m i j d l k = (
+  (λ e.
+      let p = getD order j d .place in
+      let a = two p order i j d l k e refl in
+      let b = at-most-one p 0 items f in
+      let c = sumBy-shuffled (at-place p) items order (m .same) in omega arith),
+  m .kept i j d l k,
+)
 
 pub all-positive : (q : ℕ) (xs : List Item) → InFile q xs → All (λ x. 0 < x .place) xs
 all-positive q [] h = tt
@@ -190,24 +190,24 @@ empty-slot [] h = absurd (omega arith)
 empty-slot (a ∷ s) h =
     let c = sumBy-cons (λ e. cond (taken e) 1 0) a s in
     ⊎-elim
-      (λ (e : taken a ≡ true).
-        let o : _≡_ {A = ℕ} (cond (taken a) 1 0) 1 = cond-true (taken a) 1 0 e in
-        let r = empty-slot s (omega arith) in (suc (r .0), omega (arith, r .1), r .2))
-      (λ e. (0, omega arith, omega (arith, ltb-false 0 (a .place) e)))
-      (cases-bool (taken a))
+    (λ (e : taken a ≡ true).
+    let o : _≡_ {A = ℕ} (cond (taken a) 1 0) 1 = cond-true (taken a) 1 0 e in
+    let r = empty-slot s (omega arith) in (suc (r .0), omega (arith, r .1), r .2))
+    (λ e. (0, omega arith, omega (arith, ltb-false 0 (a .place) e)))
+    (cases-bool (taken a))
 
 pub forward : (items : List Item) (slots : List Slot) → InFile 0 items → Roomy (length items) (length slots) → (order : List Item) → Permitted items order → FillsItems (length slots) order slots → LawfulTable items slots
 forward items slots f room order m fill =
     let pos : (x : Item) → Has order x → 0 < x .place =
-          λ x h. all-has (λ y. 0 < y .place) order x (all-shuffled (λ y. 0 < y .place) items order (m .same) (all-positive 0 items f)) h in
+    λ x h. all-has (λ y. 0 < y .place) order x (all-shuffled (λ y. 0 < y .place) items order (m .same) (all-positive 0 items f)) h in
     let h = held pos fill in
     let g = stands pos (before items order f m) fill in
     let in-order : (x : Item) → Has items x → Has order x = λ x k. has-shuffled items order x (m .same) k in
     let len = length-shuffled items order (m .same) in
-    record
-      { placed = λ x k. g .placed x (in-order x k)
-      ; counted = h .count ∙ len
-      ; room = λ l. empty-slot slots (rw (h .count, len) (omega arith))
-      ; clear = λ i l e. ap (λ (v : Slot). v .hash) (h .clear i e)
-      ; ordered = λ x y j k hx hy. g .ordered x y j k (in-order x hx) (in-order y hy)
-      }
+    record {
+      placed = λ x k. g .placed x (in-order x k);
+      counted = h .count ∙ len;
+      room = λ l. empty-slot slots (rw (h .count, len) (omega arith));
+      clear = λ i l e. ap (λ (v : Slot). v .hash) (h .clear i e);
+      ordered = λ x y j k hx hy. g .ordered x y j k (in-order x hx) (in-order y hy);
+    }

@@ -30,21 +30,21 @@ in-file-kept p q [] f = tt
 in-file-kept p q (x ∷ xs) f =
     let r = in-file-kept p (x .place) xs (f .1) in
     ⊎-elim
-      (λ e. rw (cond-true (p x) (x ∷ kept-by p xs) (kept-by p xs) e) (f .0, r))
-      (λ e. rw (cond-false (p x) (x ∷ kept-by p xs) (kept-by p xs) e) (in-file-lower q (x .place) (kept-by p xs) (omega (arith, f .0)) r))
-      (cases-bool (p x))
+    (λ e. rw (cond-true (p x) (x ∷ kept-by p xs) (kept-by p xs) e) (f .0, r))
+    (λ e. rw (cond-false (p x) (x ∷ kept-by p xs) (kept-by p xs) e) (in-file-lower q (x .place) (kept-by p xs) (omega (arith, f .0)) r))
+    (cases-bool (p x))
 
 has-kept : (p : Item → Bool) (xs : List Item) (y : Item) → Has xs y → p y ≡ true → Has (kept-by p xs) y
 has-kept p [] y h e = absurd (has-nil y h)
 has-kept p (x ∷ xs) y h e =
     ⊎-elim
-      (λ (q : x ≡ y). rw (cond-true (p x) (x ∷ kept-by p xs) (kept-by p xs) (ap p q ∙ e)) (subst (Has (x ∷ kept-by p xs)) q (has-head x (kept-by p xs))))
-      (λ t. let r = has-kept p xs y t e in
-        ⊎-elim
-          (λ b. rw (cond-true (p x) (x ∷ kept-by p xs) (kept-by p xs) b) (has-tail x (kept-by p xs) y r))
-          (λ b. rw (cond-false (p x) (x ∷ kept-by p xs) (kept-by p xs) b) r)
-          (cases-bool (p x)))
-      (has-cons-cases x xs y h)
+    (λ (q : x ≡ y). rw (cond-true (p x) (x ∷ kept-by p xs) (kept-by p xs) (ap p q ∙ e)) (subst (Has (x ∷ kept-by p xs)) q (has-head x (kept-by p xs))))
+    (λ t. let r = has-kept p xs y t e in
+    ⊎-elim
+    (λ b. rw (cond-true (p x) (x ∷ kept-by p xs) (kept-by p xs) b) (has-tail x (kept-by p xs) y r))
+    (λ b. rw (cond-false (p x) (x ∷ kept-by p xs) (kept-by p xs) b) r)
+    (cases-bool (p x)))
+    (has-cons-cases x xs y h)
 
 module _ (items : List Item) (slots : List Slot) (f : InFile 0 items) (law : LawfulTable items slots) (key : List ℕ) where
   -- an item of the key that is met at distance i has that distance
@@ -70,10 +70,15 @@ module _ (items : List Item) (slots : List Slot) (f : InFile 0 items) (law : Law
   ending (suc n) j e =
       let r = ending n (suc j) (omega arith) in
       ⊎-elim
-        (λ em. (j, omega arith, omega arith, (λ i a b. absurd (omega arith)), inr (omega arith, em)))
-        (λ ne. (r .0, omega (arith, r .1), r .2,
-          (λ i a b. ⊎-elim (λ (q : i ≡ j). subst (λ k. Filled slots (probe slots key k)) (sym q) (omega arith)) (λ nq. r .3 i (omega arith) b) (cases-eq i j)), r .4))
-        (cases-eq (slot slots (probe slots key j) .place) 0)
+      (λ em. (j, omega arith, omega arith, (λ i a b. absurd (omega arith)), inr (omega arith, em)))
+      (λ ne. (
+        r .0,
+        omega (arith, r .1),
+        r .2,
+        (λ i a b. ⊎-elim (λ (q : i ≡ j). subst (λ k. Filled slots (probe slots key k)) (sym q) (omega arith)) (λ nq. r .3 i (omega arith) b) (cases-eq i j)),
+        r .4,
+      ))
+      (cases-eq (slot slots (probe slots key j) .place) 0)
 
   gives : (q : ℕ) (xs : List Item) (j : ℕ) → j ≤ length slots → InFile q xs → Left j xs → Gives items slots key j xs
   gives q [] j l fs w =
@@ -85,42 +90,43 @@ module _ (items : List Item) (slots : List Slot) (f : InFile 0 items) (law : Law
       let d : Distance slots x m = e .3 in
       let later : (y : Item) → Has xs y → x .place < y .place = λ y h. all-has (λ z. x .place < z .place) xs y (above (x .place) xs (fs .1)) h in
       let farther : (y : Item) (i : ℕ) → Has xs y → Distance slots y i → m < i =
-            λ y i h dy.
-              let ey = w .each y (has-tail x xs y h) in
-              let a = law .ordered y x i m (ey .0) (e .0) (e .1 ∙ sym (ey .1)) (later y h) dy d in
-              let b : i ≡ m → ⊥ = λ q.
-                    let s : entry y ≡ entry x = sym (dy .holds) ∙ ap (slot slots) (ap (λ k. probe slots k i) (ey .1 ∙ sym (e .1)) ∙ ap (spot slots x) q) ∙ d .holds in
-                    let z = ap (λ (v : Slot). v .place) s in omega (arith, later y h) in
-              ⊎-elim (λ q. absurd (b q)) (λ o. omega arith) (cases-eq i m) in
+      λ y i h dy.
+      let ey = w .each y (has-tail x xs y h) in
+      let a = law .ordered y x i m (ey .0) (e .0) (e .1 ∙ sym (ey .1)) (later y h) dy d in
+      let b : i ≡ m → ⊥ = λ q.
+      let s : entry y ≡ entry x = sym (dy .holds) ∙ ap (slot slots) (ap (λ k. probe slots k i) (ey .1 ∙ sym (e .1)) ∙ ap (spot slots x) q) ∙ d .holds in
+      let z = ap (λ (v : Slot). v .place) s in omega (arith, later y h) in
+      ⊎-elim (λ q. absurd (b q)) (λ o. omega arith) (cases-eq i m) in
       let lm = d .within in
       next m (e .4) lm
-        (λ i a b.
-          ( subst (λ k. Filled slots (probe slots k i)) (e .1) (d .passed i b)
-          , λ y h.
-              let dy = met i y (omega arith) h in
-              ⊎-elim
-                (λ (q : x ≡ y). let z = distance-one d (subst (λ v. Distance slots v i) (sym q) dy) in omega arith)
-                (λ t. omega (arith, farther y i t dy))
-                (has-cons-cases x xs y (w .all y i (h .0) (h .2) dy a))))
-        (e .0, ap (slot slots) (ap (λ k. probe slots k m) (sym (e .1))) ∙ d .holds, e .1)
-        (gives (x .place) xs (m + 1) (omega arith) (fs .1)
-          (record
-            { each = λ y h. let r = w .each y (has-tail x xs y h) in (r .0, r .1, r .2, r .3, omega (arith, farther y (r .2) h (r .3)))
-            ; all = λ y i hy ky dy li. ⊎-elim
-                (λ (q : x ≡ y). absurd (let z = distance-one d (subst (λ v. Distance slots v i) (sym q) dy) in omega arith))
-                (λ t. t)
-                (has-cons-cases x xs y (w .all y i hy ky dy (omega (arith, e .4))))
-            }))
+      (λ i a b. (
+        subst (λ k. Filled slots (probe slots k i)) (e .1) (d .passed i b),
+        λ y h.
+            let dy = met i y (omega arith) h in
+            ⊎-elim
+            (λ (q : x ≡ y). let z = distance-one d (subst (λ v. Distance slots v i) (sym q) dy) in omega arith)
+            (λ t. omega (arith, farther y i t dy))
+            (has-cons-cases x xs y (w .all y i (h .0) (h .2) dy a)),
+      ))
+      (e .0, ap (slot slots) (ap (λ k. probe slots k m) (sym (e .1))) ∙ d .holds, e .1)
+      (gives (x .place) xs (m + 1) (omega arith) (fs .1)
+      (record {
+        each = λ y h. let r = w .each y (has-tail x xs y h) in (r .0, r .1, r .2, r .3, omega (arith, farther y (r .2) h (r .3)));
+        all = λ y i hy ky dy li. ⊎-elim
+            (λ (q : x ≡ y). absurd (let z = distance-one d (subst (λ v. Distance slots v i) (sym q) dy) in omega arith))
+            (λ t. t)
+            (has-cons-cases x xs y (w .all y i hy ky dy (omega (arith, e .4))));
+      }))
 
 pub lookup : (items : List Item) (slots : List Slot) → InFile 0 items → LawfulTable items slots → (key : List ℕ) → Gives items slots key 0 (kept-by (λ x. sameBytes (x .key) key) items)
 lookup items slots f law key =
     let p : Item → Bool = λ x. sameBytes (x .key) key in
     gives items slots f law key 0 (kept-by p items) 0 (omega arith) (in-file-kept p 0 items f)
-      (record
-        { each = λ x h.
-            let a = all-has (Has items) (kept-by p items) x (all-kept-by p (Has items) items (all-has-itself items)) h in
-            let b = all-has (λ y. p y ≡ true) (kept-by p items) x (kept-by-passes p items) h in
-            let r = law .placed x a in
-            (a, sameBytes-decides (x .key) key .0 b, r .0, r .1, omega arith)
-        ; all = λ y i hy ky dy l. has-kept p items y hy (sameBytes-decides (y .key) key .1 ky)
-        })
+    (record {
+      each = λ x h.
+          let a = all-has (Has items) (kept-by p items) x (all-kept-by p (Has items) items (all-has-itself items)) h in
+          let b = all-has (λ y. p y ≡ true) (kept-by p items) x (kept-by-passes p items) h in
+          let r = law .placed x a in
+          (a, sameBytes-decides (x .key) key .0 b, r .0, r .1, omega arith);
+      all = λ y i hy ky dy l. has-kept p items y hy (sameBytes-decides (y .key) key .1 ky);
+    })

@@ -29,16 +29,16 @@ Turn Kept Broken Rest v = Broken v ⊎ (Kept × Rest v)
 one-turn : (Kept : Type 0) (Broken Rest : Verdict → Type 0) → ((v : Verdict) → Broken v → Kept → ⊥) → One Broken → One Rest → One (Turn Kept Broken Rest)
 one-turn Kept Broken Rest not b r v w h k =
     ⊎-elim
-      (λ (x : Broken v). ⊎-elim (λ (y : Broken w). b v w x y) (λ (y : Kept × Rest w). absurd (not v x (y .0))) k)
-      (λ (x : Kept × Rest v). ⊎-elim (λ (y : Broken w). absurd (not w y (x .0))) (λ (y : Kept × Rest w). r v w (x .1) (y .1)) k)
-      h
+    (λ (x : Broken v). ⊎-elim (λ (y : Broken w). b v w x y) (λ (y : Kept × Rest w). absurd (not v x (y .0))) k)
+    (λ (x : Kept × Rest v). ⊎-elim (λ (y : Broken w). absurd (not w y (x .0))) (λ (y : Kept × Rest w). r v w (x .1) (y .1)) k)
+    h
 
 one-first : (n t u : ℕ) (Keeps : ℕ → Type 0) → First n Keeps t → First n Keeps u → t ≡ u
 one-first n t u Keeps a b =
     ⊎-elim
-      (λ (l : t < u). absurd (a .broken (b .before t l)))
-      (λ (l : u ≤ t). ⊎-elim (λ (k : u < t). absurd (b .broken (a .before u k))) (λ (k : t ≤ u). omega arith) (cases-lt u t))
-      (cases-lt t u)
+    (λ (l : t < u). absurd (a .broken (b .before t l)))
+    (λ (l : u ≤ t). ⊎-elim (λ (k : u < t). absurd (b .broken (a .before u k))) (λ (k : t ≤ u). omega arith) (cases-lt u t))
+    (cases-lt t u)
 
 one-in-list : (Keeps : Item → Type 0) (b c a d : List Item) (x y : Item) → b ++ x ∷ a ≡ c ++ y ∷ d → All Keeps b → (Keeps x → ⊥) → All Keeps c → (Keeps y → ⊥) → x ≡ y
 one-in-list Keeps [] [] a d x y e hb nx hc ny = cc
@@ -151,10 +151,10 @@ module _ (f : List ℕ) where
     one-from-4 : One From4
     one-from-4 =
         one-turn _ B4 _ (λ v h. not-first-of (items 2048 rs) (Rule4 f) (h .0) (h .1)) one-4
-          (one-turn _ B5 _ (λ v h. not-each (Rule5 f rs) (h .0) (h .1)) one-5
-            (one-turn _ B6 _ (λ v h. not-each (Rule6 f) (h .0) (h .1)) one-6
-              (one-turn _ B7 _ (λ v h. not-each (Rule7 f) (h .0) (h .2)) one-7
-                (one-turn _ B8 Last (λ v h. not-first-of (items 2048 rs) (Rule8 f rs) (h .0) (h .1)) one-8 one-last))))
+        (one-turn _ B5 _ (λ v h. not-each (Rule5 f rs) (h .0) (h .1)) one-5
+        (one-turn _ B6 _ (λ v h. not-each (Rule6 f) (h .0) (h .1)) one-6
+        (one-turn _ B7 _ (λ v h. not-each (Rule7 f) (h .0) (h .2)) one-7
+        (one-turn _ B8 Last (λ v h. not-first-of (items 2048 rs) (Rule8 f rs) (h .0) (h .1)) one-8 one-last))))
 
   -- the file has records, and these decide
   abbrev Rest3 : Verdict → Type 0
@@ -171,8 +171,8 @@ module _ (f : List ℕ) where
   one-from-3 : One From3
   one-from-3 =
       one-turn _ B3 Rest3 (λ v h k. passes-not 2048 (h .0) (position f 0) (h .1 .0) (k .0) (h .1 .1) (h .1 .2) (h .1 .3) (k .1))
-        (λ v w a b. a .2 ∙ ap (λ (p : ℕ). refused (report 3 256 p)) (passes-one 2048 (a .0) (b .0) (position f 0) (a .1 .0) (b .1 .0) (a .1 .1) (a .1 .2) (a .1 .3) (b .1 .1) (b .1 .2) (b .1 .3)) ∙ sym (b .2))
-        one-rest-3
+      (λ v w a b. a .2 ∙ ap (λ (p : ℕ). refused (report 3 256 p)) (passes-one 2048 (a .0) (b .0) (position f 0) (a .1 .0) (b .1 .0) (a .1 .1) (a .1 .2) (a .1 .3) (b .1 .1) (b .1 .2) (b .1 .3)) ∙ sym (b .2))
+      one-rest-3
 
   abbrev From1 : Verdict → Type 0
   From1 = Turn (Rule1 f) B1 (Turn (Each (Rule2 f)) B2 From3)
@@ -180,8 +180,8 @@ module _ (f : List ℕ) where
   one-from-1 : One From1
   one-from-1 =
       one-turn _ B1 _ (λ v h k. omega (arith, h .0)) (λ v w a b. a .1 ∙ sym (b .1))
-        (one-turn _ B2 From3 (λ v h k. h .1 .broken (k (h .0) (h .1 .within)))
-          (λ v w a b. a .2 ∙ ap (λ (t : ℕ). refused (report 2 t (8 * t))) (one-first 256 (a .0) (b .0) (Rule2 f) (a .1) (b .1)) ∙ sym (b .2)) one-from-3)
+      (one-turn _ B2 From3 (λ v h k. h .1 .broken (k (h .0) (h .1 .within)))
+      (λ v w a b. a .2 ∙ ap (λ (t : ℕ). refused (report 2 t (8 * t))) (one-first 256 (a .0) (b .0) (Rule2 f) (a .1) (b .1)) ∙ sym (b .2)) one-from-3)
 
   from-3 : {v : Verdict} → Rule1 f → Each (Rule2 f) → (rs : List Record) → Rule3 f rs → From4 rs v → From1 v
   from-3 r1 r2 rs r3 h = inr (r1, inr (r2, inr ((rs, r3), (rs, r3, h))))

@@ -32,24 +32,24 @@ length-filled b (a ∷ s) =
     let c = sumBy-cons (λ e. cond (taken e) 1 0) a s in
     let r = length-filled (suc b) s in
     ⊎-elim
-      (λ (e : taken a ≡ true). let n : _≡_ {A = ℕ} (cond (taken a) 1 0) 1 = cond-true (taken a) 1 0 e in
-        rw (cond-true (taken a) (b ∷ filled-from (suc b) s) (filled-from (suc b) s) e) (omega arith))
-      (λ (e : taken a ≡ false). let n : _≡_ {A = ℕ} (cond (taken a) 1 0) 0 = cond-false (taken a) 1 0 e in
-        rw (cond-false (taken a) (b ∷ filled-from (suc b) s) (filled-from (suc b) s) e) (omega arith))
-      (cases-bool (taken a))
+    (λ (e : taken a ≡ true). let n : _≡_ {A = ℕ} (cond (taken a) 1 0) 1 = cond-true (taken a) 1 0 e in
+    rw (cond-true (taken a) (b ∷ filled-from (suc b) s) (filled-from (suc b) s) e) (omega arith))
+    (λ (e : taken a ≡ false). let n : _≡_ {A = ℕ} (cond (taken a) 1 0) 0 = cond-false (taken a) 1 0 e in
+    rw (cond-false (taken a) (b ∷ filled-from (suc b) s) (filled-from (suc b) s) e) (omega arith))
+    (cases-bool (taken a))
 
 has-filled : (b : ℕ) (s : List Slot) (i : ℕ) → Filled s i → Has (filled-from b s) (b + i)
 unfolding filled-from
 has-filled b [] i f = absurd (omega arith)
 has-filled b (a ∷ s) zero f =
     rw (cond-true (taken a) (b ∷ filled-from (suc b) s) (filled-from (suc b) s) (lt-ltb 0 (a .place) f), add-zero b)
-      (has-head b (filled-from (suc b) s))
+    (has-head b (filled-from (suc b) s))
 has-filled b (a ∷ s) (suc i) f =
     let r : Has (filled-from (suc b) s) (b + suc i) = subst (Has (filled-from (suc b) s)) (omega arith) (has-filled (suc b) s i f) in
     ⊎-elim
-      (λ e. rw (cond-true (taken a) (b ∷ filled-from (suc b) s) (filled-from (suc b) s) e) (has-tail b (filled-from (suc b) s) (b + suc i) r))
-      (λ e. rw (cond-false (taken a) (b ∷ filled-from (suc b) s) (filled-from (suc b) s) e) r)
-      (cases-bool (taken a))
+    (λ e. rw (cond-true (taken a) (b ∷ filled-from (suc b) s) (filled-from (suc b) s) e) (has-tail b (filled-from (suc b) s) (b + suc i) r))
+    (λ e. rw (cond-false (taken a) (b ∷ filled-from (suc b) s) (filled-from (suc b) s) e) r)
+    (cases-bool (taken a))
 
 module _ (slots : List Slot) where
   -- the slots of the items
@@ -65,29 +65,31 @@ module _ (slots : List Slot) where
   slots-above : (q : ℕ) (xs : List Item) (h : All (λ x. (j : ℕ) × Distance slots x j) xs) → InFile q xs → All (λ i. q < slot slots i .place) (slots-of xs h)
   unfolding slots-of
   slots-above q [] h f = tt
-  slots-above q (x ∷ xs) h f =
-      ( rw (h .0 .1 .holds) (f .0)
-      , all-weaker (λ i. x .place < slot slots i .place) (λ i. q < slot slots i .place) (λ i l. omega (arith, f .0)) (slots-of xs (h .1))
-          (slots-above (x .place) xs (h .1) (f .1)))
+  slots-above q (x ∷ xs) h f = (
+    rw (h .0 .1 .holds) (f .0),
+    all-weaker (λ i. x .place < slot slots i .place) (λ i. q < slot slots i .place) (λ i l. omega (arith, f .0)) (slots-of xs (h .1))
+        (slots-above (x .place) xs (h .1) (f .1)),
+  )
 
   slots-differ : (q : ℕ) (xs : List Item) (h : All (λ x. (j : ℕ) × Distance slots x j) xs) → InFile q xs → Differ (slots-of xs h)
   unfolding slots-of
   slots-differ q [] h f = tt
   slots-differ q (x ∷ xs) h f =
-      let here = ap (λ (v : Slot). v .place) (h .0 .1 .holds) in
-      ( all-weaker (λ i. x .place < slot slots i .place) (λ i. spot slots x (h .0 .0) ≡ i → ⊥)
-          (λ i l e. let z = ap (λ n. slot slots n .place) e in omega arith) (slots-of xs (h .1))
-          (slots-above (x .place) xs (h .1) (f .1))
-      , slots-differ (x .place) xs (h .1) (f .1))
+      let here = ap (λ (v : Slot). v .place) (h .0 .1 .holds) in (
+        all-weaker (λ i. x .place < slot slots i .place) (λ i. spot slots x (h .0 .0) ≡ i → ⊥)
+            (λ i l e. let z = ap (λ n. slot slots n .place) e in omega arith) (slots-of xs (h .1))
+            (slots-above (x .place) xs (h .1) (f .1)),
+        slots-differ (x .place) xs (h .1) (f .1),
+      )
 
   slots-owned : (xs : List Item) (h : All (λ x. (j : ℕ) × Distance slots x j) xs) (i : ℕ) → Has (slots-of xs h) i → (x : Item) × Has xs x × (j : ℕ) × Distance slots x j × (spot slots x j ≡ i)
   unfolding slots-of
   slots-owned [] h i m = absurd (has-nil i m)
   slots-owned (x ∷ xs) h i m =
       ⊎-elim
-        (λ e. (x, has-head x xs, h .0 .0, h .0 .1, e))
-        (λ o. let r = slots-owned xs (h .1) i o in (r .0, has-tail x xs (r .0) (r .1), r .2, r .3, r .4))
-        (has-cons-cases (spot slots x (h .0 .0)) (slots-of xs (h .1)) i m)
+      (λ e. (x, has-head x xs, h .0 .0, h .0 .1, e))
+      (λ o. let r = slots-owned xs (h .1) i o in (r .0, has-tail x xs (r .0) (r .1), r .2, r .3, r .4))
+      (has-cons-cases (spot slots x (h .0 .0)) (slots-of xs (h .1)) i m)
 
 -- two of the rules are enough: every item has a distance, and the filled slots are as many as the items
 pub owned : (items : List Item) (slots : List Slot) → InFile 0 items → All (λ x. (j : ℕ) × Distance slots x j) items → countBy (λ s. ltb 0 (s .place)) slots ≡ length items
@@ -97,7 +99,7 @@ owned items slots f h counted i m =
     let is = slots-of slots items h in
     let in-F : (k : ℕ) → 0 < slot slots k .place → Has F k = λ k l. subst (Has F) (omega arith) (has-filled 0 slots k l) in
     let s = pigeon is F (slots-differ slots 0 items h f) (length-slots-of slots items h ∙ sym counted ∙ sym (length-filled 0 slots))
-          (all-weaker (λ k. 0 < slot slots k .place) (Has F) in-F is (slots-above slots 0 items h f)) in
+    (all-weaker (λ k. 0 < slot slots k .place) (Has F) in-F is (slots-above slots 0 items h f)) in
     slots-owned slots items h i (has-shuffled F is i (shuffled-sym is F s) (in-F i m))
 
 pub owner : (items : List Item) (slots : List Slot) → InFile 0 items → LawfulTable items slots → (i : ℕ) → Filled slots i → (x : Item) × Has items x × (j : ℕ) × Distance slots x j × (spot slots x j ≡ i)

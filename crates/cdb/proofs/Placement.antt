@@ -45,8 +45,8 @@ pub slots-made : (f : List ℕ) → Bytes f → (p n : ℕ) → p + 8 * n ≤ le
 slots-made f bytes p zero l = refl
 slots-made f bytes p (suc n) l =
     at-join f p (word (wordAt f p) ++ word (wordAt f (p + 4))) (tableBytes (slotsAt f (p + 8) n))
-      (at-join f p (word (wordAt f p)) (word (wordAt f (p + 4))) (word-made f bytes p (omega arith)) (word-made f bytes (p + 4) (omega arith)))
-      (slots-made f bytes (p + 8) n (omega arith))
+    (at-join f p (word (wordAt f p)) (word (wordAt f (p + 4))) (word-made f bytes p (omega arith)) (word-made f bytes (p + 4) (omega arith)))
+    (slots-made f bytes (p + 8) n (omega arith))
 
 length-recordBytes : (r : Record) → length (recordBytes r) ≡ size r
 length-recordBytes r = omega (arith, length-append (r .key) (r .data′))
@@ -58,12 +58,13 @@ records-made f bytes p end (r ∷ rs) l h =
     let w0 : At f p (word (length (r .key))) = subst (λ n. At f p (word n)) (h .0) (word-made f bytes p (omega (arith, h .4))) in
     let w1 : At f (p + 4) (word (length (r .data′))) = subst (λ n. At f (p + 4) (word n)) (h .1) (word-made f bytes (p + 4) (omega (arith, h .4))) in
     let head : At f p (recordBytes r) =
-          at-join f p (word (length (r .key)) ++ word (length (r .data′))) (r .key ++ r .data′)
-            (at-join f p (word (length (r .key))) (word (length (r .data′))) w0 w1)
-            (at-join f (p + 8) (r .key) (r .data′) (h .2) (h .3)) in
-    let len = length-recordBytes r in
-    ( at-join f p (recordBytes r) (joined recordBytes rs) head (subst (λ n. At f n (joined recordBytes rs)) (ap (λ k. p + k) (sym len)) (i .0))
-    , omega (arith, length-append (recordBytes r) (joined recordBytes rs), len, i .1))
+    at-join f p (word (length (r .key)) ++ word (length (r .data′))) (r .key ++ r .data′)
+    (at-join f p (word (length (r .key))) (word (length (r .data′))) w0 w1)
+    (at-join f (p + 8) (r .key) (r .data′) (h .2) (h .3)) in
+    let len = length-recordBytes r in (
+      at-join f p (recordBytes r) (joined recordBytes rs) head (subst (λ n. At f n (joined recordBytes rs)) (ap (λ k. p + k) (sym len)) (i .0)),
+      omega (arith, length-append (recordBytes r) (joined recordBytes rs), len, i .1),
+    )
 
 pub records-read : (f : List ℕ) (p end : ℕ) (rs : List Record) → end < 2 ^ 32 → At f p (joined recordBytes rs) → p + length (joined recordBytes rs) ≡ end → Records f p end rs
 records-read f p end [] l a e = sym (add-zero p) ∙ e
@@ -73,13 +74,14 @@ records-read f p end (r ∷ rs) l a e =
     let w = at-both f p (recordBytes r) (joined recordBytes rs) a in
     let u = at-both f p (word (length (r .key)) ++ word (length (r .data′))) (r .key ++ r .data′) (w .0) in
     let v = at-both f p (word (length (r .key))) (word (length (r .data′))) (u .0) in
-    let k = at-both f (p + 8) (r .key) (r .data′) (u .1) in
-    ( word-read f p (length (r .key)) (omega arith) (v .0)
-    , word-read f (p + 4) (length (r .data′)) (omega arith) (v .1)
-    , k .0
-    , k .1
-    , omega arith
-    , records-read f (p + size r) end rs l (subst (λ n. At f (p + n) (joined recordBytes rs)) len (w .1)) (omega arith))
+    let k = at-both f (p + 8) (r .key) (r .data′) (u .1) in (
+      word-read f p (length (r .key)) (omega arith) (v .0),
+      word-read f (p + 4) (length (r .data′)) (omega arith) (v .1),
+      k .0,
+      k .1,
+      omega arith,
+      records-read f (p + size r) end rs l (subst (λ n. At f (p + n) (joined recordBytes rs)) len (w .1)) (omega arith),
+    )
 
 fold-small : (h : ℕ) (key : List ℕ) → h < 2 ^ 32 → Bytes key → folded (λ h c. bitXor (33 * h % 2 ^ 32) c) h key < 2 ^ 32
 fold-small h [] l b = l

@@ -16,7 +16,6 @@ use Rattle.cdb.specs.Records.{Item, hashOf}
 use Rattle.cdb.specs.Tables.{Slot, blank, entry, slot, Empty, Filled, home, spot, Distance}
 use Rattle.cdb.proofs.TableLaw.{probe, PutsItem}
 
-
 pub spot-in : (s : List Slot) (x : Item) (j : ℕ) → 0 < length s → spot s x j < length s
 spot-in s x j h = mod-lt (home (length s) (hashOf (x .key)) + j) h
 
@@ -42,7 +41,7 @@ module _ (s : List Slot) (x : Item) (t : List Slot) (p : PutsItem s x t) where
   pub put-new : slot t (spot s x (p .distance)) ≡ entry x
   put-new =
       rw (p .after)
-        (getD-set-same s (spot s x (p .distance)) (entry x) blank (spot-in s x (p .distance) (omega (arith, p .within))))
+      (getD-set-same s (spot s x (p .distance)) (entry x) blank (spot-in s x (p .distance) (omega (arith, p .within))))
 
   pub put-other : (i : ℕ) → (i ≡ spot s x (p .distance) → ⊥) → slot t i ≡ slot s i
   put-other i n = rw (p .after) (getD-set-other s (spot s x (p .distance)) i (entry x) blank n)
@@ -57,29 +56,29 @@ module _ (s : List Slot) (x : Item) (t : List Slot) (p : PutsItem s x t) where
   pub put-keeps : (y : Item) (k : ℕ) → 0 < y .place → Distance s y k → Distance t y k
   put-keeps y k pos d =
       let f : Filled s (spot s y k) = rw (d .holds) pos in
-      record
-        { within = rw put-length (d .within)
-        ; holds = put-same y k f ∙ d .holds
-        ; passed = λ i l. rw (put-same y i (d .passed i l)) (d .passed i l)
-        ; first = λ i l e. d .first i l (sym (put-same y i (d .passed i l)) ∙ e)
-        }
+      record {
+        within = rw put-length (d .within);
+        holds = put-same y k f ∙ d .holds;
+        passed = λ i l. rw (put-same y i (d .passed i l)) (d .passed i l);
+        first = λ i l e. d .first i l (sym (put-same y i (d .passed i l)) ∙ e);
+      }
 
   -- the new item stands where it was put
   pub put-stands : ((i : ℕ) → Filled s i → slot s i .place ≡ x .place → ⊥) → Distance t x (p .distance)
   put-stands fresh =
-      record
-        { within = rw put-length (p .within)
-        ; holds = rw (spot-length s t put-length x (p .distance)) put-new
-        ; passed = λ i l. rw (put-same x i (p .nearest i l)) (p .nearest i l)
-        ; first = λ i l e.
-            fresh (spot s x i) (p .nearest i l) (ap (λ (z : Slot). z .place) (sym (put-same x i (p .nearest i l)) ∙ e))
-        }
+      record {
+        within = rw put-length (p .within);
+        holds = rw (spot-length s t put-length x (p .distance)) put-new;
+        passed = λ i l. rw (put-same x i (p .nearest i l)) (p .nearest i l);
+        first = λ i l e.
+            fresh (spot s x i) (p .nearest i l) (ap (λ (z : Slot). z .place) (sym (put-same x i (p .nearest i l)) ∙ e));
+      }
 
   -- an earlier item of equal key is no farther away
   pub put-farther : (y : Item) (k : ℕ) → y .key ≡ x .key → Distance s y k → k ≤ p .distance
   put-farther y k e d =
       ⊎-elim (λ l. absurd (not-both s (spot s y (p .distance)) (d .passed (p .distance) l) (rw (spot-key s y x e (p .distance)) (p .free))))
-        (λ l. l) (Rattle.std.proofs.shelf.Tests.cases-lt (p .distance) k)
+      (λ l. l) (Rattle.std.proofs.shelf.Tests.cases-lt (p .distance) k)
 
   pub put-count : 0 < x .place → countBy (λ e. ltb 0 (e .place)) t ≡ countBy (λ e. ltb 0 (e .place)) s + 1
   put-count pos =

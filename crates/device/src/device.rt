@@ -5,7 +5,6 @@ ghost use Prim.Native.Nat.{ℕ, _+_, _-_, _*_, _/_, _%_, _^_, _<_, _≤_};
 ghost use lib.ListN.{length};
 ghost use Rattle.bytes.specs.Bytes.{part};
 ghost use Rattle.device.specs.Meanings.{Meaning, Whole, refusal, state as «state-of», answer, filled, Written};
-
 use faults::device::DeviceFault;
 
 /// A device that can be read.

@@ -2,7 +2,6 @@
 
 ghost use mathlib.Core.Path.{_≡_};
 ghost use Rattle.faults.specs.Reports.{deviceReport};
-
 use crate::report::Report;
 
 /// A device's refusal.
@@ -22,9 +21,21 @@ impl DeviceFault {
         ensures { λ r. ⌜ r ≡ deviceReport (now (self .entry)) ⌝ }
     {
         match *self {
-            DeviceFault::Range => Report { number: 11, table: 256, place: 0 },
-            DeviceFault::Power => Report { number: 21, table: 256, place: 0 },
-            DeviceFault::Bad(place) => Report { number: 22, table: 256, place: place as u64 },
+            DeviceFault::Range => Report {
+                number: 11,
+                table: 256,
+                place: 0,
+            },
+            DeviceFault::Power => Report {
+                number: 21,
+                table: 256,
+                place: 0,
+            },
+            DeviceFault::Bad(place) => Report {
+                number: 22,
+                table: 256,
+                place: place as u64,
+            },
         }
     }
 }

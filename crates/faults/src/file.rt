@@ -4,7 +4,6 @@ ghost use mathlib.Core.Path.{_≡_};
 ghost use Rattle.std.specs.Results.{mapped};
 ghost use Rattle.faults.specs.declared.file.FileFault.the-variants.{Device as by-device};
 ghost use Rattle.faults.specs.Reports.{fileReport, located};
-
 use crate::device::DeviceFault;
 use crate::device::DeviceFaultDebug;
 use crate::device::DeviceFaultPartialEq;
@@ -54,17 +53,61 @@ impl FileFault {
     {
         match *self {
             FileFault::Device(below) => below.fault.report(),
-            FileFault::Short(len) => Report { number: 1, table: 256, place: len as u64 },
-            FileFault::Entry(table) => Report { number: 2, table, place: 8 * table as u64 },
-            FileFault::Record(place) => Report { number: 3, table: 256, place: place as u64 },
-            FileFault::Lost(table, place) => Report { number: 4, table, place: place as u64 },
-            FileFault::Count(table, place) => Report { number: 5, table, place: place as u64 },
-            FileFault::Full(table, place) => Report { number: 6, table, place: place as u64 },
-            FileFault::Stained(table, place) => Report { number: 7, table, place: place as u64 },
-            FileFault::Order(table, place) => Report { number: 8, table, place: place as u64 },
-            FileFault::Past(table, place) => Report { number: 9, table, place },
-            FileFault::Range => Report { number: 11, table: 256, place: 0 },
-            FileFault::OtherKey => Report { number: 26, table: 256, place: 0 },
+            FileFault::Short(len) => Report {
+                number: 1,
+                table: 256,
+                place: len as u64,
+            },
+            FileFault::Entry(table) => Report {
+                number: 2,
+                table,
+                place: 8 * table as u64,
+            },
+            FileFault::Record(place) => Report {
+                number: 3,
+                table: 256,
+                place: place as u64,
+            },
+            FileFault::Lost(table, place) => Report {
+                number: 4,
+                table,
+                place: place as u64,
+            },
+            FileFault::Count(table, place) => Report {
+                number: 5,
+                table,
+                place: place as u64,
+            },
+            FileFault::Full(table, place) => Report {
+                number: 6,
+                table,
+                place: place as u64,
+            },
+            FileFault::Stained(table, place) => Report {
+                number: 7,
+                table,
+                place: place as u64,
+            },
+            FileFault::Order(table, place) => Report {
+                number: 8,
+                table,
+                place: place as u64,
+            },
+            FileFault::Past(table, place) => Report {
+                number: 9,
+                table,
+                place,
+            },
+            FileFault::Range => Report {
+                number: 11,
+                table: 256,
+                place: 0,
+            },
+            FileFault::OtherKey => Report {
+                number: 26,
+                table: 256,
+                place: 0,
+            },
         }
     }
 }
@@ -75,7 +118,11 @@ pub fn add_place<T, F>(r: Result<T, F>, table: u32, place: u64) -> Result<T, Loc
 {
     match r {
         Ok(x) => Ok(x),
-        Err(fault) => Err(Located { fault, table, place }),
+        Err(fault) => Err(Located {
+            fault,
+            table,
+            place,
+        }),
     }
 }
 

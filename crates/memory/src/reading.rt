@@ -8,7 +8,6 @@ ghost use denote.Ref.{now};
 ghost use Rattle.bytes.specs.Bytes.{Bytes};
 ghost use Rattle.device.specs.Meanings.{endless};
 ghost use Rattle.memory.specs.Memories.{memory, fitting};
-
 use bytes::slices::copy_part;
 use bytes::slices::know_bytes;
 use device::checks::is_within;
