@@ -22,9 +22,10 @@ use Rattle.cdb.proofs.Placement.{length-tableBytes, length-slotsAt, Small, slo
 use Rattle.cdb.specs.Records.{Item, hashOf}
 use Rattle.cdb.specs.Tables.{Slot, blank, entry, slot, Filled}
 use Rattle.cdb.proofs.TableLaw.{InFile, LawfulTable}
-use Rattle.cdb.specs.Records.{Record, size, recordBytes, items, belonging, Records}
+use Rattle.cdb.specs.Records.{Record, size, recordBytes, items, belonging}
 use Rattle.bytes.specs.Bytes.{Bytes, word, wordAt}
-use Rattle.cdb.specs.Files.{slotBytes, tableBytes, header, fileOf, Made, position, slotCount, slotsAt}
+use Rattle.cdb.specs.Files.{slotBytes, tableBytes, header, fileOf, Made, position, slotCount, ends, slotsAt, slotsIn}
+use Rattle.cdb.specs.Rules.{Each, Rule2, Rule3}
 use Rattle.cdb.proofs.TableLaw.{FillingItems, LawfulFile}
 use Rattle.cdb.specs.Tables.{Filling}
 use Rattle.cdb.proofs.Raw.{items-filling, raw-filling}
@@ -110,47 +111,82 @@ filling-small xs s f small fill =
     rw (r .2) (all-has (λ (y : Item). (hashOf (y .key) < 2 ^ 32) × (y .place < 2 ^ 32)) xs (r .0) small (back (r .0) (r .1))))
     (cases-eq (slot s i .place) 0))
 
-lawful-from-made : (file : List ℕ) (rs : List Record) → Bytes file → length file < 2 ^ 32 → Made file rs → LawfulFile file rs
+pub length-fileOf : (rs : List Record) (ss : List (List Slot)) → length (fileOf rs ss) ≡ 8 * length ss + length (joined recordBytes rs) + length (joined tableBytes ss)
 unfolding fileOf
-lawful-from-made file rs bytes short m =
-    let ss = m .tables in
+length-fileOf rs ss =
+    let R = joined recordBytes rs in
+    let T = joined tableBytes ss in
+    let p = 2048 + length R in
+    length-append (header p ss) (R ++ T) ∙ omega (arith, length-header p ss, length-append R T)
+
+-- what is read from a file that is made from records and tables, filled or not
+pub record ReadBack (f : List ℕ) (rs : List Record) (ss : List (List Slot)) : Type 0 where
+  pub total : length f ≡ 2048 + length (joined recordBytes rs) + length (joined tableBytes ss)
+  pub first : position f 0 ≡ 2048 + length (joined recordBytes rs)
+  pub counts : (t : ℕ) → t < 256 → slotCount f t ≡ length (getD ss t [])
+  pub entries : Each (Rule2 f)
+  pub read : Rule3 f rs
+  pub slots : (t : ℕ) → t < 256 → All Small (getD ss t []) → slotsIn f t ≡ getD ss t []
+
+pub made-reads : (f : List ℕ) (rs : List Record) (ss : List (List Slot)) → length ss ≡ 256 → f ≡ fileOf rs ss → length f < 2 ^ 32 → ReadBack f rs ss
+unfolding fileOf
+made-reads f rs ss count made short =
     let R = joined recordBytes rs in
     let T = joined tableBytes ss in
     let p = 2048 + length R in
     let H = header p ss in
-    let a = at-both file 0 H (R ++ T) (at-self file (H ++ (R ++ T)) (m .bytes)) in
-    let lh : length H ≡ 2048 = length-header p ss ∙ ap (λ n. 8 * n) (m .count) in
+    let a = at-both f 0 H (R ++ T) (at-self f (H ++ (R ++ T)) made) in
+    let lh : length H ≡ 2048 = length-header p ss ∙ ap (λ n. 8 * n) count in
     let lh0 : 0 + length H ≡ 2048 = omega arith in
-    let a1 : At file 2048 (R ++ T) = subst (λ n. At file n (R ++ T)) lh0 (a .1) in
-    let b = at-both file 2048 R T a1 in
-    let len : length file ≡ p + length T = ap length (m .bytes) ∙ length-append H (R ++ T) ∙ omega (arith, length-append R T) in
-    let read = header-read file 0 p ss (omega arith) (a .0) in
-    let pos : (t : ℕ) → t < 256 → position file t ≡ starts p ss t = λ t l. ap (wordAt file) (omega arith) ∙ read t (omega (arith, m .count)) .0 in
-    let cnt : (t : ℕ) → t < 256 → slotCount file t ≡ length (getD ss t []) = λ t l. ap (wordAt file) (omega arith) ∙ read t (omega (arith, m .count)) .1 in
-    let pos0 : position file 0 ≡ p = pos 0 (omega arith) ∙ starts-zero p ss in
-    let rec : Records file 2048 (position file 0) rs = records-read file 2048 (position file 0) rs (omega arith) (b .0) (sym pos0) in
-    let small = items-small file bytes 2048 (position file 0) rs (omega arith) rec in
+    let a1 : At f 2048 (R ++ T) = subst (λ n. At f n (R ++ T)) lh0 (a .1) in
+    let b = at-both f 2048 R T a1 in
+    let len : length f ≡ p + length T = ap length made ∙ length-fileOf rs ss ∙ omega arith in
+    let head = header-read f 0 p ss (omega arith) (a .0) in
+    let pos : (t : ℕ) → t < 256 → position f t ≡ starts p ss t = λ t l. ap (wordAt f) (omega arith) ∙ head t (omega arith) .0 in
+    let cnt : (t : ℕ) → t < 256 → slotCount f t ≡ length (getD ss t []) = λ t l. ap (wordAt f) (omega arith) ∙ head t (omega arith) .1 in
+    let pos0 : position f 0 ≡ p = pos 0 (omega arith) ∙ starts-zero p ss in
+    record {
+      total = len;
+      first = pos0;
+      counts = cnt;
+      entries = λ t l. record {
+        first = λ z. rw z (omega arith, omega arith);
+        abuts = λ s.
+            let z : suc (t - 1) ≡ t = omega arith in
+            let nxt = starts-next p ss (t - 1) (omega arith) in
+            pos t l ∙ ap (starts p ss) (sym z) ∙ nxt ∙ rw (pos (t - 1) (omega arith), cnt (t - 1) (omega arith));
+        within = omega (arith, pos t l, cnt t l, starts-below p ss t (omega arith));
+        last = λ z.
+            let nxt = starts-next p ss 255 (omega arith) in
+            let end : starts p ss 256 ≡ p + length T = ap (starts p ss) (sym count) ∙ starts-end p ss in
+            rw z (omega (arith, pos 255 (omega arith), cnt 255 (omega arith)));
+      };
+      read = records-read f 2048 (position f 0) rs (omega arith) (b .0) (sym pos0);
+      slots = λ t l small.
+          let s = getD ss t [] in
+          ap (λ n. slotsAt f n (slotCount f t)) (pos t l) ∙ ap (slotsAt f (starts p ss t)) (cnt t l)
+          ∙ slots-read f (starts p ss t) s small (tables-at f p ss (b .1) t (omega arith));
+    }
+
+lawful-from-made : (file : List ℕ) (rs : List Record) → Bytes file → length file < 2 ^ 32 → Made file rs → LawfulFile file rs
+lawful-from-made file rs bytes short m =
+    let back = made-reads file rs (m .tables) (m .count) (m .bytes) short in
+    let e0 = back .entries 0 (omega arith) .first refl in
+    let small = items-small file bytes 2048 (position file 0) rs (omega arith) (back .read) in
     record {
       long = omega arith;
-      first = omega arith;
-      within = omega arith;
-      abut = λ t l. let nxt = starts-next p ss t (omega (arith, m .count)) in
-          pos (t + 1) (omega arith) ∙ ap (starts p ss) (omega arith) ∙ nxt ∙ rw (pos t (omega arith), cnt t (omega arith));
-      last =
-          let nxt = starts-next p ss 255 (omega (arith, m .count)) in
-          let end : starts p ss 256 ≡ p + length T = ap (starts p ss) (sym (m .count)) ∙ starts-end p ss in
-          omega (arith, pos 255 (omega arith), cnt 255 (omega arith));
-      read = rec;
+      first = e0 .0;
+      within = e0 .1;
+      abut = λ t l. let z : t + 1 - 1 ≡ t = omega arith in back .entries (t + 1) (omega arith) .abuts (omega arith) ∙ ap (ends file) z;
+      last = back .entries 255 (omega arith) .last refl;
+      read = back .read;
       tables = λ t l.
           let xs = belonging t rs in
-          let s = getD ss t [] in
+          let s = getD (m .tables) t [] in
           let fill = items-filling xs s (m .filled t l) in
           let inf = belonging-in-file t rs in
           let sm = filling-small xs s inf (all-kept-by (λ x. eqb (hashOf (x .key) % 256) t) (λ (y : Item). (hashOf (y .key) < 2 ^ 32) × (y .place < 2 ^ 32)) (items 2048 rs) small) fill in
-          let same : slotsAt file (position file t) (slotCount file t) ≡ s =
-          ap (λ n. slotsAt file n (slotCount file t)) (pos t l) ∙ ap (slotsAt file (starts p ss t)) (cnt t l)
-          ∙ slots-read file (starts p ss t) s sm (tables-at file p ss (b .1) t (omega (arith, m .count))) in
-          rw same (forward xs s inf (fill .roomy) (fill .order) (fill .permitted) (fill .fills));
+          rw (back .slots t l sm) (forward xs s inf (fill .roomy) (fill .order) (fill .permitted) (fill .fills));
     }
 
 -- the tables from table t on, n of them

@@ -14,4 +14,5 @@ pub mod Hashes
 pub mod Members
 pub mod Slots
 pub mod ByTable
+pub mod Exactly
 pub mod OneVerdict

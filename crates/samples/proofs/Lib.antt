@@ -1,0 +1,4 @@
+pub mod Spread
+pub mod OneTable
+pub mod TwoRecords
+pub mod Worked

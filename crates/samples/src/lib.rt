@@ -1,0 +1,2 @@
+//! Worked samples of the format.
+pub mod samples;
