@@ -134,7 +134,7 @@ module _ (m : Meaning) (e : Extent) where
   one-unreadable f g (bad-sector on a h) (no-power on′ b) = absurd (false≢true (sym b ∙ a))
   one-unreadable f g (bad-sector {f = x} on a h) (bad-sector {f = y} on′ b k) = ap (λ (z : DeviceFault). fault.Device (located z 256 0)) (one-bad m (e .start) (e .len) x y h k)
 
-  not-both : (f : FileFault) → Readable m e → Unreadable m e f → ⊥
+  pub not-both : (f : FileFault) → Readable m e → Unreadable m e f → ⊥
   not-both f r (outside a) = a (r .on)
   not-both f r (no-power on a) = false≢true (sym a ∙ r .power)
   not-both f r (bad-sector {f = x} on a h) = some-none (refuses m ((e .start + h .k) / 512)) x (r .bytes (h .k) (h .within)) (h .refused)

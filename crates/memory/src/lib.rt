@@ -1,2 +1,4 @@
-//! Memory as a device.
+//! Memory as a device, for reading and for writing.
 pub mod reading;
+mod sectors;
+pub mod writing;

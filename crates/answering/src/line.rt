@@ -1,0 +1,30 @@
+//! The line that tells an answer.
+
+ghost use mathlib.Core.Path.{_≡_};
+ghost use Rattle.std.specs.Of.String.{string-bytes};
+ghost use Rattle.std.specs.Vec.{made};
+ghost use Rattle.answering.specs.Answers.{lineOf};
+
+use crate::answers::Answer;
+use std::alloc::AllocError;
+use std::alloc::Global;
+
+/// `ok,records,slots,probes` or `no,number,table,place`, and a line feed.
+pub fn line(heap: Global, answer: Answer) -> Result<String, AllocError>
+    ensures { λ r. ⌜ made r (λ s. string-bytes s ≡ lineOf answer) ⌝ }
+{
+    match answer {
+        Answer::Accepted(counts) => {
+            let records = counts.records;
+            let slots = counts.slots;
+            let probes = counts.probes;
+            format!(heap, "ok,{records},{slots},{probes}\n")
+        }
+        Answer::Refused(report) => {
+            let number = report.number;
+            let table = report.table;
+            let place = report.place;
+            format!(heap, "no,{number},{table},{place}\n")
+        }
+    }
+}

@@ -1,0 +1,120 @@
+//! Memory for writing.
+
+ghost use mathlib.Core.Path.{_≡_};
+ghost use mathlib.Core.Bool.{true};
+ghost use Prim.Native.Nat.{ℕ, _-_, _*_, _/_};
+ghost use lib.ListN.{length, take};
+ghost use denote.Ref.{now};
+ghost use Rattle.std.specs.Options.{mapped};
+ghost use Rattle.bytes.specs.Bytes.{part};
+ghost use Rattle.device.specs.Meanings.{Whole, spent, within};
+ghost use Rattle.memory.specs.Memories.{memory, fitting};
+ghost use Rattle.memory.specs.Writing.{writes, torn-stored};
+
+mod making;
+mod storing;
+
+use crate::sectors::copy_out;
+use device::checks::is_within;
+use device::device::Device;
+use faults::device::DeviceFault;
+
+/// The writes that a memory has left.
+#[derive(Clone, Copy)]
+pub enum Budget {
+    /// Any number.
+    Endless,
+    /// So many.
+    Count(u32),
+}
+
+/// What a torn write of sector 0 stores of its piece.
+#[derive(Clone, Copy)]
+pub enum RootTear {
+    /// All of it: the sector has its new bytes.
+    All,
+    /// None of it: the sector has its old bytes.
+    Nothing,
+}
+
+/// Memory that is lent for reading and writing.
+#[derive(Drop)]
+pub struct WriteMemory<'a> {
+    bytes: &'a mut [u8],
+    sectors: u32,
+    left: Budget,
+    power: bool,
+    tear: RootTear,
+}
+
+impl Budget {
+    /// What is left after one more write; none where no write is left.
+    fn after_write(self) -> Option<Budget>
+        ensures { λ r. ⌜ mapped writes r ≡ spent (writes self) ⌝ }
+    {
+        match self {
+            Budget::Endless => Some(Budget::Endless),
+            Budget::Count(n) => if n == 0 {
+                None
+            } else {
+                Some(Budget::Count(n - 1))
+            },
+        }
+    }
+}
+
+impl RootTear {
+    /// How many bytes of a piece of `n` a torn write stores: half of them, but in sector 0 all or none.
+    fn stored_of(self, place: u32, n: usize) -> usize
+        ensures { λ r. ⌜ r ≡ torn-stored self place n ⌝ }
+    {
+        if place >= 512 {
+            return n / 2;
+        }
+        match self {
+            RootTear::All => n,
+            RootTear::Nothing => 0,
+        }
+    }
+}
+
+impl<'a> WriteMemory<'a> {
+    /// Fills a piece with what the sectors hold at its place.
+    fn copy_out(&self, place: u32, piece: &mut [u8])
+        requires { ⌜ within (fitting (now (now self .bytes))) place (length (now piece)) ≡ true ⌝ }
+        ensures { λ _. ⌜ now (piece .exit) ≡ part (take (512 * fitting (now (now (self .entry) .bytes))) (now (now (self .entry) .bytes))) place (length (now (piece .entry))) ⌝ }
+    {
+        copy_out(self.bytes, place, piece);
+    }
+}
+
+pub impl<'a> Device for WriteMemory<'a> as WriteMemoryDevice {
+    ghost meaning = { λ d. memory (now (d .bytes)) (d .power) (writes (d .left)) };
+
+    ghost sound = { λ d. (d .sectors ≡ fitting (now (d .bytes))) × Whole (memory (now (d .bytes)) (d .power) (writes (d .left))) };
+
+    fn size(&self) -> u32 {
+        self.sectors
+    }
+
+    fn state(&mut self, sector: u32) -> Result<(), DeviceFault> {
+        if sector >= self.sectors {
+            return Err(DeviceFault::Range);
+        }
+        if !self.power {
+            return Err(DeviceFault::Power);
+        }
+        Ok(())
+    }
+
+    fn read(&mut self, place: u32, piece: &mut [u8]) -> Result<(), DeviceFault> {
+        if !is_within(self.sectors, place, piece.len()) {
+            return Err(DeviceFault::Range);
+        }
+        if !self.power {
+            return Err(DeviceFault::Power);
+        }
+        self.copy_out(place, piece);
+        Ok(())
+    }
+}
