@@ -5,10 +5,9 @@ ghost use Prim.Native.Nat.{_≤_};
 ghost use lib.ListN.{length, take};
 ghost use Rattle.cdb.specs.Verdicts.{Judged};
 ghost use Rattle.answering.specs.Answers.{Answers, answerVerdict};
-
+use crate::answers::Answer;
 use auditing::auditing::audit;
 use bytes::slices::lay_over;
-use crate::answers::Answer;
 use faults::report::Report;
 use file::extents::Extent;
 use memory::reading::ReadMemory;
@@ -22,7 +21,11 @@ pub fn audit_input(input: &[u8]) -> Answer
     ensures { λ r. ⌜ Answers (now (input .entry)) r ⌝ }
 {
     if input.len() > LIMIT {
-        return Answer::Refused(Report { number: 27, table: 256, place: 61440 });
+        return Answer::Refused(Report {
+            number: 27,
+            table: 256,
+            place: 61440,
+        });
     }
     // The file lies in whole sectors, so that its last bytes are on the device too.
     let mut sectors = [0; 61440];

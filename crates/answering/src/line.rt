@@ -4,7 +4,6 @@ ghost use mathlib.Core.Path.{_≡_};
 ghost use Rattle.std.specs.Of.String.{string-bytes};
 ghost use Rattle.std.specs.Vec.{made};
 ghost use Rattle.answering.specs.Answers.{lineOf};
-
 use crate::answers::Answer;
 use std::alloc::AllocError;
 use std::alloc::Global;

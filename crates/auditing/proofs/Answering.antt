@@ -40,8 +40,8 @@ use Rattle.auditing.specs.Audits.{verdict, Audited, AcceptedExactlyWhenMade}
 faultOf : Report → FileFault
 faultOf r =
     cond (eqb (r .number) 1) (fault.Short (r .place)) (cond (eqb (r .number) 2) (fault.Entry (r .table)) (cond (eqb (r .number) 3) (fault.Record (r .place))
-      (cond (eqb (r .number) 4) (fault.Lost (r .table) (r .place)) (cond (eqb (r .number) 5) (fault.Count (r .table) (r .place)) (cond (eqb (r .number) 6) (fault.Full (r .table) (r .place))
-        (cond (eqb (r .number) 7) (fault.Stained (r .table) (r .place)) (fault.Order (r .table) (r .place))))))))
+    (cond (eqb (r .number) 4) (fault.Lost (r .table) (r .place)) (cond (eqb (r .number) 5) (fault.Count (r .table) (r .place)) (cond (eqb (r .number) 6) (fault.Full (r .table) (r .place))
+    (cond (eqb (r .number) 7) (fault.Stained (r .table) (r .place)) (fault.Order (r .table) (r .place))))))))
 
 device-number : (f : DeviceFault) → deviceReport f .number ≤ 8 → ⊥
 device-number device.Range h = omega arith
@@ -111,16 +111,16 @@ never f a b n r h k = false≢true (sym (ap is-accepted (one-verdict f (accepted
 one-bad : (m : Meaning) (p n : ℕ) (f g : DeviceFault) → FirstBad m p n f → FirstBad m p n g → f ≡ g
 one-bad m p n f g a b =
     ⊎-elim
-      (λ (l : a .k < b .k). absurd (some-none (refuses m ((p + a .k) / 512)) f (b .before (a .k) l) (a .refused)))
-      (λ (l : b .k ≤ a .k).
-        ⊎-elim
-          (λ (i : b .k < a .k). absurd (some-none (refuses m ((p + b .k) / 512)) g (a .before (b .k) i) (b .refused)))
-          (λ (i : a .k ≤ b .k).
-            let z : a .k ≡ b .k = omega arith in
-            let q : Some f ≡ Some g = sym (a .refused) ∙ ap (λ (k : ℕ). refuses m ((p + k) / 512)) z ∙ b .refused in
-            cc)
-          (cases-lt (b .k) (a .k)))
-      (cases-lt (a .k) (b .k))
+    (λ (l : a .k < b .k). absurd (some-none (refuses m ((p + a .k) / 512)) f (b .before (a .k) l) (a .refused)))
+    (λ (l : b .k ≤ a .k).
+    ⊎-elim
+    (λ (i : b .k < a .k). absurd (some-none (refuses m ((p + b .k) / 512)) g (a .before (b .k) i) (b .refused)))
+    (λ (i : a .k ≤ b .k).
+    let z : a .k ≡ b .k = omega arith in
+    let q : Some f ≡ Some g = sym (a .refused) ∙ ap (λ (k : ℕ). refuses m ((p + k) / 512)) z ∙ b .refused in
+    cc)
+    (cases-lt (b .k) (a .k)))
+    (cases-lt (a .k) (b .k))
 
 module _ (m : Meaning) (e : Extent) where
   one-unreadable : (f g : FileFault) → Unreadable m e f → Unreadable m e g → f ≡ g
@@ -154,9 +154,9 @@ module _ (m : Meaning) (e : Extent) where
       ⊎-elim (λ u. absurd (not-both f (k .0) u)) (λ j. absurd (never (file m e) (d .records) (d .slots) (d .probes) (fileReport f) (k .1) (j .1))) h
   only-answer (Err f) (Err g) h k =
       ⊎-elim
-        (λ (u : Unreadable m e f). ⊎-elim (λ (v : Unreadable m e g). ap (λ (x : FileFault). Err x) (one-unreadable g f v u)) (λ j. absurd (not-both f (j .0) u)) k)
-        (λ i. ⊎-elim (λ (v : Unreadable m e g). absurd (not-both g (i .0) v)) (λ j. ap (λ (x : FileFault). Err x) (same-fault g f (j .1) (i .1))) k)
-        h
+      (λ (u : Unreadable m e f). ⊎-elim (λ (v : Unreadable m e g). ap (λ (x : FileFault). Err x) (one-unreadable g f v u)) (λ j. absurd (not-both f (j .0) u)) k)
+      (λ i. ⊎-elim (λ (v : Unreadable m e g). absurd (not-both g (i .0) v)) (λ j. ap (λ (x : FileFault). Err x) (same-fault g f (j .1) (i .1))) k)
+      h
 
   probes-exist : (xs : List Item) → All (Rule4 (file m e)) xs → (n : ℕ) × Probes (file m e) xs n
   probes-exist [] h = (0, refl)
@@ -175,9 +175,9 @@ module _ (m : Meaning) (e : Extent) where
         (k .0, lawful-exactly (file m e) (k .0) bytes short .0 (k .1), (k .2, k .3, k .4))
     accepted-made (Err x) h readable = λ rs made.
         ⊎-elim
-          (λ u. not-both x readable u)
-          (λ j.
-            let law = lawful-exactly (file m e) rs bytes short .1 made in
-            let p = probes-exist (items 2048 rs) (law .placed) in
-            never (file m e) (length rs) (slotsBelow (file m e) 256) (p .0) (fileReport x) (keeps-all rs law (p .1)) (j .1))
-          h
+        (λ u. not-both x readable u)
+        (λ j.
+        let law = lawful-exactly (file m e) rs bytes short .1 made in
+        let p = probes-exist (items 2048 rs) (law .placed) in
+        never (file m e) (length rs) (slotsBelow (file m e) 256) (p .0) (fileReport x) (keeps-all rs law (p .1)) (j .1))
+        h

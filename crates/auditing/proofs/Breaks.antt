@@ -33,14 +33,19 @@ split-at f q end (r ∷ rs) x h m =
     let y : Item = record { key = r .key; place = q } in
     let n = q + size r in
     ⊎-elim
-      (λ (e : y ≡ x). ([], items n rs, ap (λ (z : Item). z ∷ items n rs) e, tt))
-      (λ i.
-        let s = split-at f n end rs x (h .5) i in
-        let up = item-in f n end rs x (h .5) i .1 in
-        ( y ∷ s .0, s .1, ap (λ (z : List Item). y ∷ z) (s .2)
-        , ((has-head y (items n rs), omega arith)
-          , all-weaker (λ z. Has (items n rs) z × (z .place < x .place)) (λ z. Has (y ∷ items n rs) z × (z .place < x .place)) (λ z w. (has-tail y (items n rs) z (w .0), w .1)) (s .0) (s .3))))
-      (has-cons-cases y (items n rs) x m)
+    (λ (e : y ≡ x). ([], items n rs, ap (λ (z : Item). z ∷ items n rs) e, tt))
+    (λ i.
+    let s = split-at f n end rs x (h .5) i in
+    let up = item-in f n end rs x (h .5) i .1 in (
+      y ∷ s .0,
+      s .1,
+      ap (λ (z : List Item). y ∷ z) (s .2),
+      (
+        (has-head y (items n rs), omega arith),
+        all-weaker (λ z. Has (items n rs) z × (z .place < x .place)) (λ z. Has (y ∷ items n rs) z × (z .place < x .place)) (λ z w. (has-tail y (items n rs) z (w .0), w .1)) (s .0) (s .3),
+      ),
+    ))
+    (has-cons-cases y (items n rs) x m)
 
 module _ (f : List ℕ) (rs : List Record) (reads : Rule3 f rs) (placed : All (Rule4 f) (items 2048 rs)) (counted : Each (Rule5 f rs)) (inside : position f 0 ≤ length f) where
   -- a filled slot leads to a record of the file
@@ -48,9 +53,9 @@ module _ (f : List ℕ) (rs : List Record) (reads : Rule3 f rs) (placed : All (R
   owner-at t i l b h =
       let s = slot-at f (position f t) (slotCount f t) i b in
       let there : All (λ x. (j : ℕ) × Distance (slotsIn f t) x j) (belonging t rs) =
-            all-weaker (Has (belonging t rs)) (λ x. (j : ℕ) × Distance (slotsIn f t) x j)
-              (λ x m. let r = of-table rs t x m in let d = all-has (Rule4 f) (items 2048 rs) x placed (r .0) in (d .0, subst (λ (u : ℕ). Distance (slotsIn f u) x (d .0)) (r .1) (d .1)))
-              (belonging t rs) (all-has-itself (belonging t rs)) in
+      all-weaker (Has (belonging t rs)) (λ x. (j : ℕ) × Distance (slotsIn f t) x j)
+      (λ x m. let r = of-table rs t x m in let d = all-has (Rule4 f) (items 2048 rs) x placed (r .0) in (d .0, subst (λ (u : ℕ). Distance (slotsIn f u) x (d .0)) (r .1) (d .1)))
+      (belonging t rs) (all-has-itself (belonging t rs)) in
       let o = owned (belonging t rs) (slotsIn f t) (belonging-in-file t rs) there (counted t l) i (subst (λ (z : Slot). 0 < z .place) (sym s) h) in
       let e : slot (slotsIn f t) i ≡ entry (o .0) = ap (slot (slotsIn f t)) (sym (o .4)) ∙ o .3 .holds in
       (o .0, of-table rs t (o .0) (o .1) .0, sym (ap (λ (z : Slot). z .place) e) ∙ ap (λ (z : Slot). z .place) s)
@@ -73,15 +78,15 @@ module _ (f : List ℕ) (rs : List Record) (reads : Rule3 f rs) (placed : All (R
     keeps : (x : Item) → Has (items 2048 rs) x → x .place < low → Rule8 f rs x
     keeps x hx b y j k hy ke pl dx dy =
         ⊎-elim
-          (λ (l : j < k). absurd (omega (arith, least y hy (x .place) (overtakes x y j k hx ke pl dx dy l))))
-          (λ (l : k ≤ j). l)
-          (cases-lt j k)
+        (λ (l : j < k). absurd (omega (arith, least y hy (x .place) (overtakes x y j k hx ke pl dx dy l))))
+        (λ (l : k ≤ j). l)
+        (cases-lt j k)
 
     pub swept-passes : end ≤ low → All (Rule8 f rs) (items 2048 rs)
     swept-passes e =
         all-weaker (Has (items 2048 rs)) (Rule8 f rs)
-          (λ x hx. keeps x hx (let k = item-in f 2048 (position f 0) rs x reads hx in omega (arith, k .2)))
-          (items 2048 rs) (all-has-itself (items 2048 rs))
+        (λ x hx. keeps x hx (let k = item-in f 2048 (position f 0) rs x reads hx in omega (arith, k .2)))
+        (items 2048 rs) (all-has-itself (items 2048 rs))
 
     -- the lowest place is a record's
     lowest-in : (y : Item) → Overtakes f y low → Has (items 2048 rs) (itemAt f low)
@@ -102,24 +107,25 @@ module _ (f : List ℕ) (rs : List Record) (reads : Rule3 f rs) (placed : All (R
     pub swept-breaks : low < end → FirstOf (items 2048 rs) (Rule8 f rs) (itemAt f low)
     swept-breaks l =
         ⊎-elim
-          (λ (a : low ≡ end). absurd (omega arith))
-          (λ a.
-            let y = a .0 in
-            let o = a .2 in
-            let hy : Has (items 2048 rs) y = subst (λ (z : List Record). Has (items 2048 z) y) same (a .1) in
-            let s = split-at f 2048 (position f 0) rs (itemAt f low) reads (lowest-in y o) in
-            record {
-              before = s .0;
-              after = s .1;
-              among = s .2;
-              kept = all-weaker (λ z. Has (items 2048 rs) z × (z .place < low)) (Rule8 f rs) (λ z h. keeps z (h .0) (h .1)) (s .0) (s .3);
-              broken = λ rule. absurd (omega (arith, o .4, rule y (o .1) (o .0) hy (sym (o .5)) (o .6) (o .3) (o .2))) })
-          (swept .from)
+        (λ (a : low ≡ end). absurd (omega arith))
+        (λ a.
+        let y = a .0 in
+        let o = a .2 in
+        let hy : Has (items 2048 rs) y = subst (λ (z : List Record). Has (items 2048 z) y) same (a .1) in
+        let s = split-at f 2048 (position f 0) rs (itemAt f low) reads (lowest-in y o) in
+        record {
+          before = s .0;
+          after = s .1;
+          among = s .2;
+          kept = all-weaker (λ z. Has (items 2048 rs) z × (z .place < low)) (Rule8 f rs) (λ z h. keeps z (h .0) (h .1)) (s .0) (s .3);
+          broken = λ rule. absurd (omega (arith, o .4, rule y (o .1) (o .0) hy (sym (o .5)) (o .6) (o .3) (o .2)));
+        })
+        (swept .from)
 
 -- the lowest record that overtakes another lies in the file
 pub lowest-fits : (f : List ℕ) (p end low : ℕ) → Swept f p end low → low < end → low + 8 + wordAt f low ≤ length f
 lowest-fits f p end low swept l =
     ⊎-elim
-      (λ (a : low ≡ end). absurd (omega arith))
-      (λ a. a .2 .7)
-      (swept .from)
+    (λ (a : low ≡ end). absurd (omega arith))
+    (λ a. a .2 .7)
+    (swept .from)

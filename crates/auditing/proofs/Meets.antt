@@ -57,31 +57,32 @@ pub tally-more : (f : List ℕ) (p : ℕ) (counts : List ℕ) (rs : List Record)
 tally-more f p counts rs r t h l b e k s m =
     let x : Item = record { key = r .key; place = p } in
     let q : length (belonging s (rs ++ r ∷ [])) ≡ length (belonging s rs) + cond (test s x) 1 0 =
-        ap (λ (z : List Item). length (kept-by (test s) z)) (items-more f 2048 p rs r h) ∙ one-more s (items 2048 rs) x in
+    ap (λ (z : List Item). length (kept-by (test s) z)) (items-more f 2048 p rs r h) ∙ one-more s (items 2048 rs) x in
     ⊎-elim
-      (λ (a : s ≡ t).
-        let u : test s x ≡ true = eq-eqb (tableOf (r .key)) s (sym (a ∙ e)) in
-        let v : getD (set counts t (getD counts t 0 + 1)) s 0 ≡ getD counts t 0 + 1 = ap (λ (i : ℕ). getD (set counts t (getD counts t 0 + 1)) i 0) a ∙ (let i : t < length counts = omega arith in rw getD-set-same) in
-        let w : getD counts t 0 ≡ length (belonging s rs) = ap (λ (i : ℕ). getD counts i 0) (sym a) ∙ k s m in
-        v ∙ ap (λ (i : ℕ). i + 1) w ∙ sym (q ∙ ap (λ (z : Bool). length (belonging s rs) + cond z 1 0) u))
-      (λ (a : s ≡ t → ⊥).
-        let u : test s x ≡ false = ne-eqb (tableOf (r .key)) s (λ z. a (sym (e ∙ z))) in
-        let n : s ≢ t = a in
-        let v : getD (set counts t (getD counts t 0 + 1)) s 0 ≡ getD counts s 0 = rw getD-set-other in
-        let z : length (belonging s rs) + 0 ≡ length (belonging s rs) = omega arith in
-        v ∙ k s m ∙ sym (q ∙ ap (λ (z : Bool). length (belonging s rs) + cond z 1 0) u ∙ z))
-      (cases-eq s t)
+    (λ (a : s ≡ t).
+    let u : test s x ≡ true = eq-eqb (tableOf (r .key)) s (sym (a ∙ e)) in
+    let v : getD (set counts t (getD counts t 0 + 1)) s 0 ≡ getD counts t 0 + 1 = ap (λ (i : ℕ). getD (set counts t (getD counts t 0 + 1)) i 0) a ∙ (let i : t < length counts = omega arith in rw getD-set-same) in
+    let w : getD counts t 0 ≡ length (belonging s rs) = ap (λ (i : ℕ). getD counts i 0) (sym a) ∙ k s m in
+    v ∙ ap (λ (i : ℕ). i + 1) w ∙ sym (q ∙ ap (λ (z : Bool). length (belonging s rs) + cond z 1 0) u))
+    (λ (a : s ≡ t → ⊥).
+    let u : test s x ≡ false = ne-eqb (tableOf (r .key)) s (λ z. a (sym (e ∙ z))) in
+    let n : s ≢ t = a in
+    let v : getD (set counts t (getD counts t 0 + 1)) s 0 ≡ getD counts s 0 = rw getD-set-other in
+    let z : length (belonging s rs) + 0 ≡ length (belonging s rs) = omega arith in
+    v ∙ k s m ∙ sym (q ∙ ap (λ (z : Bool). length (belonging s rs) + cond z 1 0) u ∙ z))
+    (cases-eq s t)
 
 -- one more record
 pub met-more : (f : List ℕ) (p n q j t : ℕ) (counts : List ℕ) → Met f p q counts → n ≡ p + (8 + (wordAt f p + wordAt f (p + 4))) → n ≤ length f → length counts ≡ 256 → t < 256
     → t ≡ tableOf (itemAt f p .key) → Distance (slotsOf f (itemAt f p)) (itemAt f p) j → Met f n (q + (j + 1)) (set counts t (getD counts t 0 + 1))
 met-more f p n q j t counts m e l lc lt et d =
     let w : p + (8 + (wordAt f p + wordAt f (p + 4))) ≤ length f = omega arith in
-    let z : p + size (recordAt f p) ≡ n = omega (arith, size-here f p w) in
-    ( m .0 ++ recordAt f p ∷ []
-    , subst (λ (i : ℕ). Records f 2048 i (m .0 ++ recordAt f p ∷ [])) z (records-more f 2048 p (m .0) (recordAt f p) (m .1) (record-here f p w))
-    , subst (λ (xs : List Item). Probes f xs (q + (j + 1))) (sym (items-more f 2048 p (m .0) (recordAt f p) (m .1))) (probes-more f (items 2048 (m .0)) (itemAt f p) q j (m .2) d)
-    , tally-more f p counts (m .0) (recordAt f p) t (m .1) lc lt et (m .3))
+    let z : p + size (recordAt f p) ≡ n = omega (arith, size-here f p w) in (
+      m .0 ++ recordAt f p ∷ [],
+      subst (λ (i : ℕ). Records f 2048 i (m .0 ++ recordAt f p ∷ [])) z (records-more f 2048 p (m .0) (recordAt f p) (m .1) (record-here f p w)),
+      subst (λ (xs : List Item). Probes f xs (q + (j + 1))) (sym (items-more f 2048 p (m .0) (recordAt f p) (m .1))) (probes-more f (items 2048 (m .0)) (itemAt f p) q j (m .2) d),
+      tally-more f p counts (m .0) (recordAt f p) t (m .1) lc lt et (m .3),
+    )
 
 -- no records yet
 pub met-none : (f counts : List ℕ) → ((t : ℕ) → t < 256 → getD counts t 0 ≡ 0) → Met f 2048 0 counts
@@ -94,28 +95,32 @@ met-lost f p end q counts t m ([], h) l e lost = absurd (omega arith)
 met-lost f p end q counts t m (r ∷ rs, h) l e lost =
     let k : r .key ≡ itemAt f p .key = sym (ap (λ (n : ℕ). part f (p + 8) n) (h .0) ∙ h .2) in
     let here : items 2048 (m .0 ++ r ∷ rs) ≡ items 2048 (m .0) ++ itemAt f p ∷ items (p + size r) rs =
-          items-append f 2048 p (m .0) (r ∷ rs) (m .1) ∙ ap (λ (u : List ℕ). items 2048 (m .0) ++ record { key = u; place = p } ∷ items (p + size r) rs) k in
-    ( m .0 ++ r ∷ rs
-    , records-append f 2048 p end (m .0) (r ∷ rs) (omega arith) (m .1) h
-    , ( itemAt f p
-      , record {
+    items-append f 2048 p (m .0) (r ∷ rs) (m .1) ∙ ap (λ (u : List ℕ). items 2048 (m .0) ++ record { key = u; place = p } ∷ items (p + size r) rs) k in (
+      m .0 ++ r ∷ rs,
+      records-append f 2048 p end (m .0) (r ∷ rs) (omega arith) (m .1) h,
+      (
+        itemAt f p,
+        record {
           before = items 2048 (m .0);
           after = items (p + size r) rs;
           among = here;
           kept = probes-placed f (items 2048 (m .0)) q (m .2);
-          broken = λ d. lost (d .0) (d .1) }
-      , e
-      , refl))
+          broken = λ d. lost (d .0) (d .1);
+        },
+        e,
+        refl,
+      ),
+    )
 
 pub counts-more : (counts : List ℕ) (t p n : ℕ) → ((s : ℕ) → s < 256 → getD counts s 0 ≤ p - 2048) → length counts ≡ 256 → t < 256 → 2048 ≤ p → p < n
     → (s : ℕ) → s < 256 → getD (set counts t (getD counts t 0 + 1)) s 0 ≤ n - 2048
 counts-more counts t p n h l b lp q s m =
     ⊎-elim
-      (λ (a : s ≡ t).
-        let v : getD (set counts t (getD counts t 0 + 1)) s 0 ≡ getD counts t 0 + 1 = ap (λ (i : ℕ). getD (set counts t (getD counts t 0 + 1)) i 0) a ∙ (let i : t < length counts = omega arith in rw getD-set-same) in
-        omega (arith, h t b))
-      (λ (a : s ≡ t → ⊥).
-        let n : s ≢ t = a in
-        let v : getD (set counts t (getD counts t 0 + 1)) s 0 ≡ getD counts s 0 = rw getD-set-other in
-        omega (arith, h s m))
-      (cases-eq s t)
+    (λ (a : s ≡ t).
+    let v : getD (set counts t (getD counts t 0 + 1)) s 0 ≡ getD counts t 0 + 1 = ap (λ (i : ℕ). getD (set counts t (getD counts t 0 + 1)) i 0) a ∙ (let i : t < length counts = omega arith in rw getD-set-same) in
+    omega (arith, h t b))
+    (λ (a : s ≡ t → ⊥).
+    let n : s ≢ t = a in
+    let v : getD (set counts t (getD counts t 0 + 1)) s 0 ≡ getD counts s 0 = rw getD-set-other in
+    omega (arith, h s m))
+    (cases-eq s t)

@@ -39,7 +39,8 @@ module _ (f : List ℕ) (pos len : ℕ) (x : Item) where
         within = subst (λ (n : ℕ). j < n) (sym (length-slotsAt f pos len)) (h .within);
         holds = slot-placed some j ∙ rw (h .holds .0, h .holds .1);
         passed = λ i l. subst (λ (s : Slot). 0 < s .place) (sym (slot-placed some i)) (h .passed i l .0);
-        first = λ i l e. let q = sym (slot-placed some i) ∙ e in h .passed i l .1 (ap (λ (s : Slot). s .hash) q, ap (λ (s : Slot). s .place) q) }
+        first = λ i l e. let q = sym (slot-placed some i) ∙ e in h .passed i l .1 (ap (λ (s : Slot). s .hash) q, ap (λ (s : Slot). s .place) q);
+      }
 
   pub missing-distance : 0 < x .place → Missing f pos len (hashOf (x .key)) (x .place) → (j : ℕ) → Distance (slotsAt f pos len) x j → ⊥
   missing-distance pl h j d =
@@ -48,19 +49,18 @@ module _ (f : List ℕ) (pos len : ℕ) (x : Item) where
       let q = sym (slot-placed some j) ∙ d .holds in
       let e = h .end in
       ⊎-elim
-        (λ (a : j < e). h .passed j a .1 (ap (λ (s : Slot). s .hash) q, ap (λ (s : Slot). s .place) q))
-        (λ (a : e ≤ j).
-          ⊎-elim
-            (λ (b : e ≡ len). absurd (omega arith))
-            (λ (b : (e < len) × (wordAt f (slotPlace pos len (hashOf (x .key)) e + 4) ≡ 0)).
-              ⊎-elim
-                (λ (u : e < j). let v = subst (λ (s : Slot). 0 < s .place) (slot-placed some e) (d .passed e u) in absurd (omega (arith, b .1)))
-                (λ (u : j ≤ e).
-                  let z : j ≡ e = omega arith in
-                  let w : wordAt f (slotPlace pos len (hashOf (x .key)) j + 4) ≡ x .place = ap (λ (s : Slot). s .place) q in
-                  let y : wordAt f (slotPlace pos len (hashOf (x .key)) j + 4) ≡ 0 = ap (λ (i : ℕ). wordAt f (slotPlace pos len (hashOf (x .key)) i + 4)) z ∙ b .1 in
-                  absurd (omega arith))
-                (cases-lt e j))
-            (h .stops))
-        (cases-lt j e)
-
+      (λ (a : j < e). h .passed j a .1 (ap (λ (s : Slot). s .hash) q, ap (λ (s : Slot). s .place) q))
+      (λ (a : e ≤ j).
+      ⊎-elim
+      (λ (b : e ≡ len). absurd (omega arith))
+      (λ (b : (e < len) × (wordAt f (slotPlace pos len (hashOf (x .key)) e + 4) ≡ 0)).
+      ⊎-elim
+      (λ (u : e < j). let v = subst (λ (s : Slot). 0 < s .place) (slot-placed some e) (d .passed e u) in absurd (omega (arith, b .1)))
+      (λ (u : j ≤ e).
+      let z : j ≡ e = omega arith in
+      let w : wordAt f (slotPlace pos len (hashOf (x .key)) j + 4) ≡ x .place = ap (λ (s : Slot). s .place) q in
+      let y : wordAt f (slotPlace pos len (hashOf (x .key)) j + 4) ≡ 0 = ap (λ (i : ℕ). wordAt f (slotPlace pos len (hashOf (x .key)) i + 4)) z ∙ b .1 in
+      absurd (omega arith))
+      (cases-lt e j))
+      (h .stops))
+      (cases-lt j e)

@@ -41,12 +41,12 @@ some-empty : (xs : List Slot) → countBy full xs < length xs → (i : ℕ) × (
 some-empty [] h = absurd (omega arith)
 some-empty (x ∷ xs) h =
     ⊎-elim
-      (λ (a : 0 < x .place).
-        let c : countBy full (x ∷ xs) ≡ 1 + countBy full xs = counted-cons x xs ∙ ap (λ (b : Bool). cond b 1 0 + countBy full xs) (lt-ltb 0 (x .place) a) in
-        let r = some-empty xs (omega arith) in
-        (suc (r .0), omega (arith, r .1), r .2))
-      (λ (a : x .place ≤ 0). (0, omega arith, omega arith))
-      (cases-lt 0 (x .place))
+    (λ (a : 0 < x .place).
+    let c : countBy full (x ∷ xs) ≡ 1 + countBy full xs = counted-cons x xs ∙ ap (λ (b : Bool). cond b 1 0 + countBy full xs) (lt-ltb 0 (x .place) a) in
+    let r = some-empty xs (omega arith) in
+    (suc (r .0), omega (arith, r .1), r .2))
+    (λ (a : x .place ≤ 0). (0, omega arith, omega arith))
+    (cases-lt 0 (x .place))
 
 empty-fewer : (xs : List Slot) (i : ℕ) → i < length xs → getD xs i blank .place ≡ 0 → countBy full xs < length xs
 empty-fewer [] i l h = absurd (omega arith)
@@ -80,7 +80,8 @@ first-map n t P Q to from h =
     record {
       within = h .within;
       before = λ i l. to i (omega (arith, h .within)) (h .before i l);
-      broken = λ q. h .broken (from t (h .within) q) }
+      broken = λ q. h .broken (from t (h .within) q);
+    }
 
 module _ (f : List ℕ) (H : Each (Rule2 f)) where
   below : (t : ℕ) → t < 256 → position f t ≡ position f 0 + 8 * slotsBelow f t
@@ -127,7 +128,7 @@ module _ (f : List ℕ) (long : Rule1 f) (H : Each (Rule2 f)) (end : ℕ) (here 
       let x = h .2 .0 in
       let r3 : Rule3 f (h .0) = subst (λ (e : ℕ). Records f 2048 e (h .0)) here (h .1) in
       subst (λ (t : ℕ). Judged f (refused (report 4 t (s .place)))) (sym (h .2 .2))
-        (subst (λ (p : ℕ). Judged f (refused (report 4 (tableOf (x .key)) p))) (sym (h .2 .3)) (broken-4 (h .0) long H r3 (h .2 .1)))
+      (subst (λ (p : ℕ). Judged f (refused (report 4 (tableOf (x .key)) p))) (sym (h .2 .3)) (broken-4 (h .0) long H r3 (h .2 .1)))
 
   module _ (counts : List ℕ) (q low : ℕ) (placed : Placed f end q counts low) where
     rs : List Record
@@ -157,13 +158,13 @@ module _ (f : List ℕ) (long : Rule1 f) (H : Each (Rule2 f)) (end : ℕ) (here 
         at-place 5 t p (position f t) (h .place) (broken-5 rs long H reads found (first-map 256 t (Counted f counts) (Rule5 f rs) rule5 rule5-back (h .table)))
     tables-refuse (fault.Full t p) h =
         at-place 6 t p (position f t) (h .1 .place)
-          (broken-6 rs long H reads found (λ i l. rule5 i l (h .0 i l))
-            (first-map 256 t (Room f counts) (Rule6 f) (λ i l. room-rule f counts i (h .0 i l)) (λ i l. rule-room f counts i (h .0 i l)) (h .1 .table)))
+        (broken-6 rs long H reads found (λ i l. rule5 i l (h .0 i l))
+        (first-map 256 t (Room f counts) (Rule6 f) (λ i l. room-rule f counts i (h .0 i l)) (λ i l. rule-room f counts i (h .0 i l)) (h .1 .table)))
     tables-refuse (fault.Stained t p) h =
         at-place 7 t p (position f t + 8 * h .2 .index) (h .2 .place)
-          (broken-7 rs long H reads found (λ i l. rule5 i l (h .0 i l)) (λ i l. room-rule f counts i (h .0 i l) (h .1 i l))
-            (first-map 256 t (TableClear f) (Rule7 f) (λ i l. table-to f i) (λ i l. table-from f i) (h .2 .table))
-            (first-map (slotCount f t) (h .2 .index) (ClearAt f (position f t)) (Clear f t) (λ i l. clear-to f t i l) (λ i l. clear-from f t i l) (h .2 .slot)))
+        (broken-7 rs long H reads found (λ i l. rule5 i l (h .0 i l)) (λ i l. room-rule f counts i (h .0 i l) (h .1 i l))
+        (first-map 256 t (TableClear f) (Rule7 f) (λ i l. table-to f i) (λ i l. table-from f i) (h .2 .table))
+        (first-map (slotCount f t) (h .2 .index) (ClearAt f (position f t)) (Clear f t) (λ i l. clear-to f t i l) (λ i l. clear-from f t i l) (h .2 .slot)))
     tables-refuse (fault.Device d) h = absurd h
     tables-refuse (fault.Short n) h = absurd h
     tables-refuse (fault.Entry t) h = absurd h
@@ -190,7 +191,7 @@ module _ (f : List ℕ) (long : Rule1 f) (H : Each (Rule2 f)) (end : ℕ) (here 
       pub order-refuse : (t : ℕ) → low < end → t ≡ tableOf (itemAt f low .key) → Judged f (refused (report 8 t low))
       order-refuse t l e =
           subst (λ (u : ℕ). Judged f (refused (report 8 u low))) (sym e)
-            (broken-8 rs long H reads found all5 all6 all7 (swept-breaks f rs reads found all5 inside end low here (placed .swept) l))
+          (broken-8 rs long H reads found all5 all6 all7 (swept-breaks f rs reads found all5 inside end low here (placed .swept) l))
 
       pub all-pass : (n s : ℕ) → CountTo f end n → s ≡ (length f - end) / 8 → end ≤ low → Judged f (verdict (Ok (record { records = n; slots = s; probes = q })))
       unfolding rs
@@ -199,4 +200,4 @@ module _ (f : List ℕ) (long : Rule1 f) (H : Each (Rule2 f)) (end : ℕ) (here 
           let slots : s ≡ slotsBelow f 256 = e ∙ ap (λ (z : ℕ). (length f - z) / 8) here ∙ slots-total f H in
           let law : Lawful f rs = record { long = long; entries = H; reads = reads; placed = found; counted = all5; room = all6; clear = all7; ordered = swept-passes f rs reads found all5 inside end low here (placed .swept) l } in
           subst (λ (c : ℕ). Judged f (verdict (Ok (record { records = c; slots = s; probes = q })))) (sym count)
-            (subst (λ (c : ℕ). Judged f (verdict (Ok (record { records = length (placed .met .0); slots = c; probes = q })))) (sym slots) (keeps-all (placed .met .0) law (placed .met .2)))
+          (subst (λ (c : ℕ). Judged f (verdict (Ok (record { records = length (placed .met .0); slots = c; probes = q })))) (sym slots) (keeps-all (placed .met .0) law (placed .met .2)))

@@ -32,16 +32,17 @@ swept-more f p n end low x s e l h =
       reads = subst (λ (i : ℕ). Records f 2048 i (s .before ++ recordAt f p ∷ [])) z (records-more f 2048 p (s .before) (recordAt f p) (s .reads) (record-here f p w));
       most = omega (arith, h .most, s .most);
       least = subst (λ (xs : List Item). All (P x) xs) (sym it)
-        (all-push (P x) (items 2048 (s .before)) (itemAt f p) (all-weaker (P low) (P x) (λ y a q o. omega (arith, a q o, h .most)) (items 2048 (s .before)) (s .least)) (h .least));
+          (all-push (P x) (items 2048 (s .before)) (itemAt f p) (all-weaker (P low) (P x) (λ y a q o. omega (arith, a q o, h .most)) (items 2048 (s .before)) (s .least)) (h .least));
       from =
-        ⊎-elim
+          ⊎-elim
           (λ (a : x ≡ low).
-            ⊎-elim
-              (λ (b : low ≡ end). inl (a ∙ b))
-              (λ b. inr (b .0, subst (λ (xs : List Item). Has xs (b .0)) (sym it) (has-left (items 2048 (s .before)) (itemAt f p ∷ []) (b .0) (b .1)), subst (λ (v : ℕ). Overtakes f (b .0) v) (sym a) (b .2)))
-              (s .from))
+          ⊎-elim
+          (λ (b : low ≡ end). inl (a ∙ b))
+          (λ b. inr (b .0, subst (λ (xs : List Item). Has xs (b .0)) (sym it) (has-left (items 2048 (s .before)) (itemAt f p ∷ []) (b .0) (b .1)), subst (λ (v : ℕ). Overtakes f (b .0) v) (sym a) (b .2)))
+          (s .from))
           (λ a. inr (itemAt f p, subst (λ (xs : List Item). Has xs (itemAt f p)) (sym it) (has-last (items 2048 (s .before)) (itemAt f p)), a))
-          (h .from) }
+          (h .from);
+    }
 
 -- an item of the file is the record at its place, which ends at or before end
 pub item-in : (f : List ℕ) (q end : ℕ) (rs : List Record) (x : Item) → Records f q end rs → Has (items q rs) x
@@ -50,8 +51,8 @@ item-in f q end [] x h m = absurd (has-nil x m)
 item-in f q end (r ∷ rs) x h m =
     let y : Item = record { key = r .key; place = q } in
     ⊎-elim
-      (λ (e : y ≡ x).
-        let k : y ≡ itemAt f q = ap (λ (u : List ℕ). record { key = u; place = q }) (sym (ap (λ (n : ℕ). part f (q + 8) n) (h .0) ∙ h .2)) in
-        subst (λ (z : Item). (z ≡ itemAt f (z .place)) × (q ≤ z .place) × (z .place + 8 + wordAt f (z .place) ≤ end)) e (k, omega arith, omega (arith, h .4, h .0)))
-      (λ i. let a = item-in f (q + size r) end rs x (h .5) i in (a .0, omega (arith, a .1), a .2))
-      (has-cons-cases y (items (q + size r) rs) x m)
+    (λ (e : y ≡ x).
+    let k : y ≡ itemAt f q = ap (λ (u : List ℕ). record { key = u; place = q }) (sym (ap (λ (n : ℕ). part f (q + 8) n) (h .0) ∙ h .2)) in
+    subst (λ (z : Item). (z ≡ itemAt f (z .place)) × (q ≤ z .place) × (z .place + 8 + wordAt f (z .place) ≤ end)) e (k, omega arith, omega (arith, h .4, h .0)))
+    (λ i. let a = item-in f (q + size r) end rs x (h .5) i in (a .0, omega (arith, a .1), a .2))
+    (has-cons-cases y (items (q + size r) rs) x m)

@@ -26,13 +26,14 @@ records-more f q p (s ∷ rs) r h k = (h .0, h .1, h .2, h .3, omega (arith, h .
 pub record-here : (f : List ℕ) (p : ℕ) → p + (8 + (wordAt f p + wordAt f (p + 4))) ≤ length f → Records f p (p + size (recordAt f p)) (recordAt f p ∷ [])
 record-here f p h =
     let k : length (part f (p + 8) (wordAt f p)) ≡ wordAt f p = part-long f (p + 8) (wordAt f p) (omega arith) in
-    let n : length (part f (p + 8 + wordAt f p) (wordAt f (p + 4))) ≡ wordAt f (p + 4) = part-long f (p + 8 + wordAt f p) (wordAt f (p + 4)) (omega arith) in
-    ( sym k
-    , sym n
-    , ap (λ (i : ℕ). part f (p + 8) i) k
-    , ap (λ (i : ℕ). part f (p + 8 + i) (length (part f (p + 8 + wordAt f p) (wordAt f (p + 4))))) k ∙ ap (λ (i : ℕ). part f (p + 8 + wordAt f p) i) n
-    , omega arith
-    , refl)
+    let n : length (part f (p + 8 + wordAt f p) (wordAt f (p + 4))) ≡ wordAt f (p + 4) = part-long f (p + 8 + wordAt f p) (wordAt f (p + 4)) (omega arith) in (
+      sym k,
+      sym n,
+      ap (λ (i : ℕ). part f (p + 8) i) k,
+      ap (λ (i : ℕ). part f (p + 8 + i) (length (part f (p + 8 + wordAt f p) (wordAt f (p + 4))))) k ∙ ap (λ (i : ℕ). part f (p + 8 + wordAt f p) i) n,
+      omega arith,
+      refl,
+    )
 
 pub size-here : (f : List ℕ) (p : ℕ) → p + (8 + (wordAt f p + wordAt f (p + 4))) ≤ length f → size (recordAt f p) ≡ 8 + (wordAt f p + wordAt f (p + 4))
 size-here f p h =
@@ -41,10 +42,11 @@ size-here f p h =
 pub count-more : (f : List ℕ) (p n q : ℕ) (r : Words) → WordsAt f p r → CountTo f p n → q ≡ p + 8 + r .first + r .second → q ≤ length f → CountTo f q (n + 1)
 count-more f p n q r pair h e l =
     let w : p + (8 + (wordAt f p + wordAt f (p + 4))) ≤ length f = omega (arith, pair) in
-    let z : p + size (recordAt f p) ≡ q = omega (arith, pair, size-here f p w) in
-    ( h .0 ++ recordAt f p ∷ []
-    , subst (λ (x : ℕ). Records f 2048 x (h .0 ++ recordAt f p ∷ [])) z (records-more f 2048 p (h .0) (recordAt f p) (h .1) (record-here f p w))
-    , length-append (h .0) (recordAt f p ∷ []) ∙ ap (λ (i : ℕ). i + 1) (h .2))
+    let z : p + size (recordAt f p) ≡ q = omega (arith, pair, size-here f p w) in (
+      h .0 ++ recordAt f p ∷ [],
+      subst (λ (x : ℕ). Records f 2048 x (h .0 ++ recordAt f p ∷ [])) z (records-more f 2048 p (h .0) (recordAt f p) (h .1) (record-here f p w)),
+      length-append (h .0) (recordAt f p ∷ []) ∙ ap (λ (i : ℕ). i + 1) (h .2),
+    )
 
 -- from one record to the next
 pub ahead-next : (f : List ℕ) (p end : ℕ) → Ahead f p end → p < end → (p + (8 + (wordAt f p + wordAt f (p + 4))) ≤ end) × Ahead f (p + (8 + (wordAt f p + wordAt f (p + 4)))) end

@@ -7,7 +7,6 @@ ghost use Rattle.cdb.specs.Verdicts.{Judged};
 ghost use Rattle.file.specs.Extents.{Ready, file};
 ghost use Rattle.auditing.specs.Audits.{verdict, Audited, OnlyAnswer, AcceptedExactlyWhenMade, OneRecordList};
 ghost use Rattle.auditing.specs.Orders.{Ordered};
-
 use crate::audits::Counts;
 use crate::header::broken_entry;
 use crate::placing::place_records;
@@ -19,6 +18,9 @@ use file::extents::Extent;
 use file::plain::hash_in;
 use file::plain::words_in;
 use file::readable::check_readable;
+
+/// The bytes of a header: an entry of two words for each of 256 tables.
+const HEADER: u32 = 2048;
 
 /// Refuses the record at `low` by rule 8, if it is one before `end`.
 fn check_order<D: Device>(d: &mut D, e: Extent, end: u32, low: u32) -> Result<(), FileFault>
@@ -44,7 +46,7 @@ fn judge<D: Device>(d: &mut D, e: Extent) -> Result<Counts, FileFault>
     ensures same { λ _. ⌜ D·Device .meaning (now (d .exit)) ≡ D·Device .meaning (now (d .entry)) ⌝ }
     ensures sound { λ _. ⌜ D·Device .sound (now (d .exit)) ⌝ }
 {
-    if e.len < 2048 {
+    if e.len < HEADER {
         return Err(FileFault::Short(e.len));
     }
     if let Some(t) = broken_entry(d, e) {
@@ -62,7 +64,11 @@ fn judge<D: Device>(d: &mut D, e: Extent) -> Result<Counts, FileFault>
     };
     check_tables(d, e, &counts)?;
     check_order(d, e, end, placing.low)?;
-    Ok(Counts { records, slots: (e.len - end) / 8, probes: placing.probes })
+    Ok(Counts {
+        records,
+        slots: (e.len - end) / 8,
+        probes: placing.probes,
+    })
 }
 
 /// Audits the file in an extent. Refuses 11, 21 or 22 if it cannot be read, then by the first rule that it breaks, 1 to 8.

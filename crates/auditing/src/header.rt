@@ -8,7 +8,6 @@ ghost use Rattle.std.specs.Options.{Cases};
 ghost use Rattle.cdb.specs.Rules.{Rule2, First, Each};
 ghost use Rattle.file.specs.Extents.{Ready, file};
 ghost use Rattle.auditing.specs.Headers.{Stands};
-
 use device::device::Device;
 use file::extents::Extent;
 use file::plain::words_in;

@@ -7,7 +7,6 @@ ghost use Rattle.std.specs.Results.{Cases};
 ghost use Rattle.cdb.specs.Files.{ends};
 ghost use Rattle.file.specs.Extents.{Ready, file};
 ghost use Rattle.auditing.specs.Sweeps.{Ahead, Placed, Lost};
-
 use crate::records::Placing;
 use crate::records::Spot;
 use crate::searching::locate;
@@ -16,7 +15,12 @@ use device::device::Device;
 use file::extents::Extent;
 
 /// Finds the distance of each record; counts the records of each table. Or the first record without a distance.
-pub(crate) fn place_records<D: Device>(d: &mut D, e: Extent, end: u32, counts: &mut [u32]) -> Result<Placing, Spot>
+pub(crate) fn place_records<D: Device>(
+    d: &mut D,
+    e: Extent,
+    end: u32,
+    counts: &mut [u32],
+) -> Result<Placing, Spot>
     requires sound { ⌜ D·Device .sound (now d) ⌝ }
     requires ready { ⌜ Ready (D·Device .meaning (now d)) e ⌝ }
     requires tables { ⌜ 2048 ≤ e .len ⌝ ∗ ⌜ ((t : ℕ) → t < 256 → ends (file (D·Device .meaning (now d)) e) t ≤ e .len) ⌝ }
@@ -34,7 +38,10 @@ pub(crate) fn place_records<D: Device>(d: &mut D, e: Extent, end: u32, counts: &
         let step = record_at(d, e, p, end);
         let found = locate(d, e, p, step.key, low);
         match found.distance {
-            None => return Err(Spot { table: found.table, place: p }),
+            None => return Err(Spot {
+                table: found.table,
+                place: p,
+            }),
             Some(j) => {
                 probes += j as u64 + 1;
                 counts[found.table as usize] += 1;

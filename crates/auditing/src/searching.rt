@@ -6,7 +6,6 @@ ghost use Rattle.bytes.specs.Bytes.{wordAt};
 ghost use Rattle.cdb.specs.Files.{ends};
 ghost use Rattle.file.specs.Extents.{Ready, file};
 ghost use Rattle.auditing.specs.Searches.{Lowers, Searched, Located};
-
 use crate::searches::Search;
 use device::device::Device;
 use file::extents::Extent;
@@ -26,7 +25,15 @@ fn turn(home: u32, j: u32, len: u32) -> u32
 }
 
 /// The lower of `low` and the place in a slot, if that is the place of a later record with the key of the record at `p`.
-fn lowered<D: Device>(d: &mut D, e: Extent, slot: Words, hash: u32, p: u32, key: u32, low: u32) -> u32
+fn lowered<D: Device>(
+    d: &mut D,
+    e: Extent,
+    slot: Words,
+    hash: u32,
+    p: u32,
+    key: u32,
+    low: u32,
+) -> u32
     requires sound { ⌜ D·Device .sound (now d) ⌝ }
     requires ready { ⌜ Ready (D·Device .meaning (now d)) e ⌝ }
     requires within { ⌜ p + 8 + key ≤ e .len ⌝ }
@@ -47,11 +54,23 @@ fn lowered<D: Device>(d: &mut D, e: Extent, slot: Words, hash: u32, p: u32, key:
     if words.first != key {
         return low;
     }
-    if same_in(d, e, q + 8, p + 8, key) { low.min(q) } else { low }
+    if same_in(d, e, q + 8, p + 8, key) {
+        low.min(q)
+    } else {
+        low
+    }
 }
 
 /// Searches for a hash and the place of the record at `p` in its table, and lowers `best` to each later record of its key on the way.
-fn search<D: Device>(d: &mut D, e: Extent, head: Words, hash: u32, p: u32, key: u32, best: u32) -> Search
+fn search<D: Device>(
+    d: &mut D,
+    e: Extent,
+    head: Words,
+    hash: u32,
+    p: u32,
+    key: u32,
+    best: u32,
+) -> Search
     requires sound { ⌜ D·Device .sound (now d) ⌝ }
     requires ready { ⌜ Ready (D·Device .meaning (now d)) e ⌝ }
     requires table { ⌜ head .first + 8 * head .second ≤ e .len ⌝ }
@@ -65,21 +84,37 @@ fn search<D: Device>(d: &mut D, e: Extent, head: Words, hash: u32, p: u32, key: 
     let table = hash % 256;
     let len = head.second;
     if len == 0 {
-        return Search { table, distance: None, low: best };
+        return Search {
+            table,
+            distance: None,
+            low: best,
+        };
     }
     let home = hash / 256 % len;
     let mut low = best;
     for j in 0..len {
         let slot = words_in(d, e, head.first + 8 * turn(home, j, len));
         if slot.second == 0 {
-            return Search { table, distance: None, low };
+            return Search {
+                table,
+                distance: None,
+                low,
+            };
         }
         if slot.first == hash && slot.second == p {
-            return Search { table, distance: Some(j), low };
+            return Search {
+                table,
+                distance: Some(j),
+                low,
+            };
         }
         low = lowered(d, e, slot, hash, p, key, low);
     }
-    Search { table, distance: None, low }
+    Search {
+        table,
+        distance: None,
+        low,
+    }
 }
 
 /// The table and the distance of the record at `p`, and the lowest place of a record that overtakes it; or `best`.

@@ -8,7 +8,6 @@ ghost use Rattle.cdb.specs.Files.{ends};
 ghost use Rattle.cdb.specs.Rules.{First, Each};
 ghost use Rattle.file.specs.Extents.{Ready, file};
 ghost use Rattle.auditing.specs.Tables.{filledIn, Counted, Room, ClearAt, TableClear, FirstSlot, FirstTable, Ruled};
-
 use crate::records::Spot;
 use device::device::Device;
 use faults::file::FileFault;
@@ -47,7 +46,10 @@ fn miscounted<D: Device>(d: &mut D, e: Extent, counts: &[u32]) -> Option<Spot>
     for t in 0..256u32 {
         let entry = words_in(d, e, 8 * t);
         if count_filled(d, e, entry.first, entry.second) != counts[t as usize] {
-            return Some(Spot { table: t, place: entry.first });
+            return Some(Spot {
+                table: t,
+                place: entry.first,
+            });
         }
     }
     None
@@ -66,7 +68,10 @@ fn full<D: Device>(d: &mut D, e: Extent, counts: &[u32]) -> Option<Spot>
     for t in 0..256u32 {
         let entry = words_in(d, e, 8 * t);
         if entry.second > 0 && counts[t as usize] >= entry.second {
-            return Some(Spot { table: t, place: entry.first });
+            return Some(Spot {
+                table: t,
+                place: entry.first,
+            });
         }
     }
     None
@@ -102,7 +107,10 @@ fn stained<D: Device>(d: &mut D, e: Extent) -> Option<Spot>
     for t in 0..256u32 {
         let entry = words_in(d, e, 8 * t);
         if let Some(i) = stained_slot(d, e, entry.first, entry.second) {
-            return Some(Spot { table: t, place: entry.first + 8 * i });
+            return Some(Spot {
+                table: t,
+                place: entry.first + 8 * i,
+            });
         }
     }
     None

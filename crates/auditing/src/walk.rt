@@ -5,7 +5,6 @@ ghost use Prim.Native.Nat.{ℕ, _+_, _-_, _*_, _/_, _%_, _^_, _<_, _≤_};
 ghost use Rattle.std.specs.Results.{Cases};
 ghost use Rattle.file.specs.Extents.{Ready, file};
 ghost use Rattle.auditing.specs.Sweeps.{CountTo, Past, Ahead, Steps};
-
 use crate::records::Step;
 use device::device::Device;
 use file::extents::Extent;
@@ -48,5 +47,8 @@ pub(crate) fn record_at<D: Device>(d: &mut D, e: Extent, p: u32, end: u32) -> St
     ensures sound { λ _. ⌜ D·Device .sound (now (d .exit)) ⌝ }
 {
     let words = words_in(d, e, p);
-    Step { key: words.first, next: p + 8 + words.first + words.second }
+    Step {
+        key: words.first,
+        next: p + 8 + words.first + words.second,
+    }
 }

@@ -113,15 +113,15 @@ impl FileFault {
 }
 
 /// Adds the table and the place to a fault from below, for the `?` that follows.
-pub fn add_place<T, F>(r: Result<T, F>, table: u32, place: u64) -> Result<T, Located<F>>
-    ensures { λ q. ⌜ q ≡ mapped (λ x. x) (λ f. located f table place) r ⌝ }
+pub fn add_place<T, F>(r: Result<T, F>, in_table: u32, at_place: u64) -> Result<T, Located<F>>
+    ensures { λ q. ⌜ q ≡ mapped (λ x. x) (λ f. located f «in_table» «at_place») r ⌝ }
 {
     match r {
         Ok(x) => Ok(x),
         Err(fault) => Err(Located {
             fault,
-            table,
-            place,
+            table: in_table,
+            place: at_place,
         }),
     }
 }

@@ -11,4 +11,4 @@ returns-in-Ok c = accepted-laid (c .args .sectors .now) _ (c .in-Ok .counts) (c 
 pub returns-in-Err : need.returns-in-Err
 returns-in-Err c =
     subst (λ (r : Report). Judged (take (c .args .len) (c .args .sectors .now)) (refused r)) (sym (c .report .ensures))
-      (refused-laid (c .args .sectors .now) _ (c .in-Err .fault) (c .pre .0) (c .new-device .ensures .meaning) (c .in-Err .ensures tt .verdict) refl (c .pre .1))
+    (refused-laid (c .args .sectors .now) _ (c .in-Err .fault) (c .pre .0) (c .new-device .ensures .meaning) (c .in-Err .ensures tt .verdict) refl (c .pre .1))

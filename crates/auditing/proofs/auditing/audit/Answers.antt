@@ -30,12 +30,13 @@ returns-in-Break-check-readable g c =
     let r = err-from-errBy (c .from-residual .result) (c .from-residual .ensures .1) in
     let a : Audited m e (c .from-residual .result) = rw (r .1, r .2) (inl (c .in-Break-check-readable .ensures tt .answer)) in
     record {
-        verdict = a;
-        only = λ s h. only-answer m e (c .from-residual .result) s a h;
-        made = accepted-made m e (c .check-readable .ensures .whole) (c .from-residual .result) a;
-        reading = one-list m e;
-        same = c .check-readable .ensures .same;
-        sound = c .check-readable .ensures .sound }
+      verdict = a;
+      only = λ s h. only-answer m e (c .from-residual .result) s a h;
+      made = accepted-made m e (c .check-readable .ensures .whole) (c .from-residual .result) a;
+      reading = one-list m e;
+      same = c .check-readable .ensures .same;
+      sound = c .check-readable .ensures .sound;
+    }
 
 pub returns : need.returns
 returns g c =
@@ -45,9 +46,10 @@ returns g c =
     let j : Judged (file m e) (verdict (c .judge .result)) = subst (λ (n : Meaning). Judged (file n e) (verdict (c .judge .result))) s1 (c .judge .ensures .judged) in
     let a : Audited m e (c .judge .result) = judged m e (c .judge .result) (c .in-Continue-check-readable .ensures tt .answer .readable) j in
     record {
-        verdict = a;
-        only = λ s h. only-answer m e (c .judge .result) s a h;
-        made = accepted-made m e (c .check-readable .ensures .whole) (c .judge .result) a;
-        reading = one-list m e;
-        same = c .judge .ensures .same ∙ s1;
-        sound = c .judge .ensures .sound }
+      verdict = a;
+      only = λ s h. only-answer m e (c .judge .result) s a h;
+      made = accepted-made m e (c .check-readable .ensures .whole) (c .judge .result) a;
+      reading = one-list m e;
+      same = c .judge .ensures .same ∙ s1;
+      sound = c .judge .ensures .sound;
+    }

@@ -20,12 +20,14 @@ returns-then-not-stands g c =
     let r = c .words-in-entry .result in
     let pair : WordsAt f (8 * t) r = subst (λ (n : Meaning). WordsAt (file n e) (8 * t) r) (c .loop-t .inv .0) (c .words-in-entry .ensures .words) in
     record {
-        answer = record {
-            within = search needs;
-            before = c .loop-t .inv .2;
-            broken = λ s. not-from-decides (c .stands .result) (c .stands .ensures) (c .if-not-stands .taken) (entry-read f (e .len) t (c .loop-t .due) r (c .pre .ready .long) pair (c .loop-t .inv .3) s) };
-        same = search needs;
-        sound = search needs }
+      answer = record {
+        within = search needs;
+        before = c .loop-t .inv .2;
+        broken = λ s. not-from-decides (c .stands .result) (c .stands .ensures) (c .if-not-stands .taken) (entry-read f (e .len) t (c .loop-t .due) r (c .pre .ready .long) pair (c .loop-t .inv .3) s);
+      };
+      same = search needs;
+      sound = search needs;
+    }
 
 pub loop-t-again : need.loop-t-again
 loop-t-again g c =
@@ -36,7 +38,9 @@ loop-t-again g c =
     let r = c .words-in-entry .result in
     let pair : WordsAt f (8 * t) r = subst (λ (n : Meaning). WordsAt (file n e) (8 * t) r) (c .loop-t .inv .0) (c .words-in-entry .ensures .words) in
     let long : length f ≡ e .len = c .pre .ready .long in
-    let z : t + 1 - 1 ≡ t = omega arith in
-    (search needs, search needs,
-     below-more _ _ (c .loop-t .inv .2) (entry-stands f (e .len) t (c .loop-t .due) r long pair (c .loop-t .inv .3) (c .stands .ensures .0 (c .if-not-stands .left))),
-     λ _. next-due f (e .len) t (c .loop-t .due) r long pair (c .loop-t .inv .3) ∙ ap (ends f) (sym z))
+    let z : t + 1 - 1 ≡ t = omega arith in (
+      search needs,
+      search needs,
+      below-more _ _ (c .loop-t .inv .2) (entry-stands f (e .len) t (c .loop-t .due) r long pair (c .loop-t .inv .3) (c .stands .ensures .0 (c .if-not-stands .left))),
+      λ _. next-due f (e .len) t (c .loop-t .due) r long pair (c .loop-t .inv .3) ∙ ap (ends f) (sym z),
+    )

@@ -31,9 +31,10 @@ returns-in-None g c =
     let lo : Located f p low x = subst (λ (n : Meaning). Located (file n e) p low x) s2 (c .locate-found .ensures .located) in
     let d2 : Outcome f (itemAt f p) low None (x .low) = subst (λ (o : Option ℕ). Outcome f (itemAt f p) low o (x .low)) (c .in-None .is) (lo .1) in
     record {
-        answer = met-lost f p (c .args .end) (c .loop-p .probes) (c .loop-p .counts) (x .table) (c .loop-p .inv .5) (c .loop-p .inv .4) (search needs) (lo .0) d2;
-        same = search needs;
-        sound = search needs }
+      answer = met-lost f p (c .args .end) (c .loop-p .probes) (c .loop-p .counts) (x .table) (c .loop-p .inv .5) (c .loop-p .inv .4) (search needs) (lo .0) d2;
+      same = search needs;
+      sound = search needs;
+    }
 
 pub loop-p-again : need.loop-p-again
 loop-p-again g c =
@@ -56,12 +57,17 @@ loop-p-again g c =
     let nn = nx .next in
     let nw = nx .within in
     let fit : j < 4294967296 = search needs in
-    let up : p < r .next = omega arith in
-    (search needs, search needs, omega arith, nw, nx .ahead,
-     met-more f p (r .next) (c .loop-p .probes) j (x .table) (c .loop-p .counts) (c .loop-p .inv .5) nn (omega arith) lc lt (lo .0) (d2 .0),
-     omega arith,
-     counts-more (c .loop-p .counts) (x .table) p (r .next) (c .loop-p .inv .7) lc lt (omega arith) up,
-     swept-more f p (r .next) (c .args .end) low (x .low) (c .loop-p .inv .8) nn (omega arith) (d2 .1))
+    let up : p < r .next = omega arith in (
+      search needs,
+      search needs,
+      omega arith,
+      nw,
+      nx .ahead,
+      met-more f p (r .next) (c .loop-p .probes) j (x .table) (c .loop-p .counts) (c .loop-p .inv .5) nn (omega arith) lc lt (lo .0) (d2 .0),
+      omega arith,
+      counts-more (c .loop-p .counts) (x .table) p (r .next) (c .loop-p .inv .7) lc lt (omega arith) up,
+      swept-more f p (r .next) (c .args .end) low (x .low) (c .loop-p .inv .8) nn (omega arith) (d2 .1),
+    )
 
 pub returns : need.returns
 returns g c =
@@ -69,8 +75,10 @@ returns g c =
     let f = file m (c .args .e) in
     let z : c .loop-p .p ≡ c .args .end = omega arith in
     record {
-        answer = record {
-            met = subst (λ (p : ℕ). Met f p (c .loop-p .probes) (c .loop-p .counts)) z (c .loop-p .inv .5);
-            swept = subst (λ (p : ℕ). Swept f p (c .args .end) (c .loop-p .low)) z (c .loop-p .inv .8) };
-        same = search needs;
-        sound = search needs }
+      answer = record {
+        met = subst (λ (p : ℕ). Met f p (c .loop-p .probes) (c .loop-p .counts)) z (c .loop-p .inv .5);
+        swept = subst (λ (p : ℕ). Swept f p (c .args .end) (c .loop-p .low)) z (c .loop-p .inv .8);
+      };
+      same = search needs;
+      sound = search needs;
+    }

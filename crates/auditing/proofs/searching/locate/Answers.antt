@@ -24,9 +24,10 @@ returns g c =
     let q : h ≡ hashOf (itemAt f p .key) = c .hash-in-hash .ensures .hash ∙ ap (λ (n : ℕ). hashOf (part f (p + 8) n)) (c .pre .key) in
     let pair : WordsAt f (8 * (h % 256)) r = subst (λ (n : Meaning). WordsAt (file n e) (8 * (h % 256)) r) s1 (c .words-in-head .ensures .words) in
     let fo : Searched f (r .first) (r .second) h p (c .args .best) (x .distance) (x .low) =
-          subst (λ (n : Meaning). Searched (file n e) (r .first) (r .second) h p (c .args .best) (x .distance) (x .low)) s2 (c .search .ensures .answer) in
+    subst (λ (n : Meaning). Searched (file n e) (r .first) (r .second) h p (c .args .best) (x .distance) (x .low)) s2 (c .search .ensures .answer) in
     let ft = at-table f p h r q pair (λ u v w. Searched f u v w p (c .args .best) (x .distance) (x .low)) fo in
     record {
-        located = (c .search .ensures .table ∙ ap (λ (n : ℕ). n % 256) q, outcome f p (c .args .best) (x .low) (x .distance) (search needs) ft);
-        same = c .search .ensures .same ∙ s2;
-        sound = c .search .ensures .sound }
+      located = (c .search .ensures .table ∙ ap (λ (n : ℕ). n % 256) q, outcome f p (c .args .best) (x .low) (x .distance) (search needs) ft);
+      same = c .search .ensures .same ∙ s2;
+      sound = c .search .ensures .sound;
+    }

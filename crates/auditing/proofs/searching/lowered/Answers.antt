@@ -16,9 +16,10 @@ returns-then-q-key g c =
     let q = c .args .slot .second in
     let long : length f ≡ c .args .e .len = c .pre .ready .long in
     record {
-        answer = inr ((λ a. let k : wordAt f q ≡ wordAt f (c .args .p) = key-lengths f (c .args .p) q (omega (arith, c .pre .key)) (a .2) (a .3) in omega (arith, a .2, c .pre .key)), refl);
-        same = search needs;
-        sound = search needs }
+      answer = inr ((λ a. let k : wordAt f q ≡ wordAt f (c .args .p) = key-lengths f (c .args .p) q (omega (arith, c .pre .key)) (a .2) (a .3) in omega (arith, a .2, c .pre .key)), refl);
+      same = search needs;
+      sound = search needs;
+    }
 
 pub returns-then-words-key : need.returns-then-words-key
 returns-then-words-key g c =
@@ -26,6 +27,7 @@ returns-then-words-key g c =
     let q = c .args .slot .second in
     let long : length f ≡ c .args .e .len = c .pre .ready .long in
     record {
-        answer = inr ((λ a. c .if-words-key .taken (c .words-in-words .ensures .words .0 ∙ key-lengths f (c .args .p) q (omega (arith, c .pre .key)) (a .2) (a .3) ∙ sym (c .pre .key))), refl);
-        same = search needs;
-        sound = search needs }
+      answer = inr ((λ a. c .if-words-key .taken (c .words-in-words .ensures .words .0 ∙ key-lengths f (c .args .p) q (omega (arith, c .pre .key)) (a .2) (a .3) ∙ sym (c .pre .key))), refl);
+      same = search needs;
+      sound = search needs;
+    }

@@ -24,7 +24,10 @@ loop-j-again g c =
     let pair : WordsAt f p r = subst (λ (n : Meaning). WordsAt (file n e) p r) s1 (c .words-in-slot .ensures .words) in
     let z : p ≡ slotPlace (c .args .head .first) (c .args .head .second) (c .args .hash) j = ap (λ (i : ℕ). c .args .head .first + 8 * i) (c .turn .ensures .slot) in
     let lo : Lowers f (c .args .hash) (c .args .p) (r .first) (r .second) low (c .lowered-low .result) =
-          subst (λ (n : Meaning). Lowers (file n e) (c .args .hash) (c .args .p) (r .first) (r .second) low (c .lowered-low .result)) s2 (c .lowered-low .ensures .answer) in
-    (search needs, search needs, refl,
-     below-more _ _ (c .loop-j .inv .3) (passed-here f p _ (c .args .hash) (c .args .p) r pair z (c .if-slot-eq0 .left) (c .else-slot-hash .either)),
-     lowest-more f (c .args .head .first) (c .args .head .second) (c .args .hash) (c .args .p) j (c .args .best) low (c .lowered-low .result) r p pair z (c .loop-j .inv .4) lo)
+    subst (λ (n : Meaning). Lowers (file n e) (c .args .hash) (c .args .p) (r .first) (r .second) low (c .lowered-low .result)) s2 (c .lowered-low .ensures .answer) in (
+      search needs,
+      search needs,
+      refl,
+      below-more _ _ (c .loop-j .inv .3) (passed-here f p _ (c .args .hash) (c .args .p) r pair z (c .if-slot-eq0 .left) (c .else-slot-hash .either)),
+      lowest-more f (c .args .head .first) (c .args .head .second) (c .args .hash) (c .args .p) j (c .args .best) low (c .lowered-low .result) r p pair z (c .loop-j .inv .4) lo,
+    )

@@ -15,6 +15,10 @@ loop-p-again g c =
     let r = c .words-in-words .result in
     let p = c .loop-p .p in
     let pair : WordsAt f p r = subst (λ (n : Meaning). WordsAt (file n (c .args .e)) p r) (c .loop-p .inv .0) (c .words-in-words .ensures .words) in
-    let l : length f ≡ c .args .e .len = c .pre .ready .long in
-    (search needs, search needs, omega arith, omega arith,
-     count-more f p (c .loop-p .n) _ r pair (c .loop-p .inv .4) refl (omega (arith, l)))
+    let l : length f ≡ c .args .e .len = c .pre .ready .long in (
+      search needs,
+      search needs,
+      omega arith,
+      omega arith,
+      count-more f p (c .loop-p .n) _ r pair (c .loop-p .inv .4) refl (omega (arith, l)),
+    )

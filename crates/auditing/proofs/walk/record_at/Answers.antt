@@ -35,6 +35,7 @@ returns g c =
     let pair = c .words-in-words .ensures .words in
     let z : p + 8 + r .first + r .second ≡ p + (8 + (wordAt f p + wordAt f (p + 4))) = omega (arith, pair .0, pair .1) in
     record {
-        found = record { key = pair .0; next = z; within = omega (arith, a .0); ahead = subst (λ (q : ℕ). Ahead f q (c .args .end)) (sym z) (a .1) };
-        same = search needs;
-        sound = search needs }
+      found = record { key = pair .0; next = z; within = omega (arith, a .0); ahead = subst (λ (q : ℕ). Ahead f q (c .args .end)) (sym z) (a .1) };
+      same = search needs;
+      sound = search needs;
+    }

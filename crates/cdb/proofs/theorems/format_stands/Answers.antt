@@ -6,8 +6,8 @@ use Rattle.cdb.proofs.theorems.format_stands.Needs as need
 
 pub returns : need.returns
 returns c =
-    record
-      { made = lawful-exactly
-      ; reading = λ f rs ss a b. one-reading f 2048 (position f 0) rs ss (a .reads) (b .reads)
-      ; verdict = one-verdict
-      }
+    record {
+      made = lawful-exactly;
+      reading = λ f rs ss a b. one-reading f 2048 (position f 0) rs ss (a .reads) (b .reads);
+      verdict = one-verdict;
+    }
