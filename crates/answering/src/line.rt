@@ -8,7 +8,7 @@ use crate::answers::Answer;
 use std::alloc::AllocError;
 use std::alloc::Global;
 
-/// `ok,records,slots,probes` or `no,number,table,place`, and a line feed.
+/// One line: `ok` and the counts, or `no` and how the refusal is told.
 pub fn line(heap: Global, answer: Answer) -> Result<String, AllocError>
     ensures { λ r. ⌜ made r (λ s. string-bytes s ≡ lineOf answer) ⌝ }
 {

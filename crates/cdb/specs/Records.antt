@@ -13,10 +13,11 @@ pub record Record : Type 0 where
   pub key : List ℕ
   pub data′ : List ℕ
 
--- the hash starts at 5381, and each byte c turns h into (33 h mod 2^32) xor c
+-- one byte more in a hash: 33 times the hash, kept to 32 bits, then the byte by exclusive or
 abbrev pub hashStep : ℕ → ℕ → ℕ
 hashStep h c = bitXor (33 * h % 2 ^ 32) c
 
+-- the hash of a key: byte after byte, begun with 5381
 unfoldable pub hashOf : List ℕ → ℕ
 hashOf key = folded hashStep 5381 key
 

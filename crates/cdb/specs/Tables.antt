@@ -40,7 +40,7 @@ slotAway len hash j = (home len hash + j) % len
 abbrev pub spot : List Slot → Item → ℕ → ℕ
 spot slots x j = slotAway (length slots) (hashOf (x .key)) j
 
--- a hash and a place are put into s, which turns it into t: they go to the empty slot at the smallest distance from the hash's home
+-- t is s with a hash and a place put in: they take the free slot that is nearest to the home of the hash
 pub record Puts (s : List Slot) (x : Slot) (t : List Slot) : Type 0 where
   pub distance : ℕ
   pub within : distance < length s
@@ -69,7 +69,7 @@ pub record Filling (xs : List Item) (slots : List Slot) : Type 0 where
   pub permitted : Permitted xs order
   pub fills : Fills (length slots) (map entry order) slots
 
--- the distance of a record: the smallest j whose slot holds its hash and place, with no empty slot at a smaller j
+-- the distance of a record: a search from its home meets its hash and place there first, and passes no empty slot
 pub record Distance (slots : List Slot) (x : Item) (j : ℕ) : Type 0 where
   pub within : j < length slots
   pub holds : slot slots (spot slots x j) ≡ entry x

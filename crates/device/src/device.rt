@@ -29,7 +29,7 @@ pub trait Device {
         ensures same { λ _. ⌜ meaning (now (self .exit)) ≡ meaning (now (self .entry)) ⌝ }
         ensures sound { λ _. ⌜ sound (now (self .exit)) ⌝ };
 
-    /// Fills a piece of 1 to 512 bytes inside one sector: refuses 11, 21 or 22, and leaves the piece then.
+    /// Fills a piece that lies in one sector: refuses 11, 21 or 22, and leaves the piece then.
     fn read(&mut self, place: u32, piece: &mut [u8]) -> Result<(), DeviceFault>
         requires { ⌜ sound (now self) ⌝ }
         ensures answer { λ r. ⌜ r ≡ answer (refusal (meaning (now (self .entry))) place (length (now (piece .entry)))) ⌝ }
@@ -41,7 +41,7 @@ pub trait Device {
 
 /// A device that can be written too.
 pub trait WritableDevice: Device {
-    /// Stores a piece of 1 to 512 bytes inside one sector: refuses 11, 21 or 22, and changes nothing then, unless power goes.
+    /// Stores a piece that lies in one sector: refuses 11, 21 or 22, and changes nothing then, unless power goes.
     fn write(&mut self, place: u32, piece: &[u8]) -> Result<(), DeviceFault>
         requires { ⌜ Self·Device .sound (now self) ⌝ }
         ensures written { λ r. ⌜ Written (Self·Device .meaning (now (self .entry))) place (now (piece .entry)) r (Self·Device .meaning (now (self .exit))) ⌝ }

@@ -17,7 +17,7 @@ use Rattle.file.specs.declared.extents.Extent.{Extent}
 use Rattle.file.specs.declared.words.Words.{Words}
 use Rattle.file.specs.Ranges.{AllRead, FirstBad}
 
--- an extent is made of a start and a length with a sum of at most 4,294,966,784, and refused otherwise
+-- an extent is made where start and length together are no more than the 4,294,966,784 bytes of the largest device, and refused otherwise
 abbrev pub MakesExtent : ℕ → ℕ → Result Extent FileFault → Type 0
 MakesExtent start len (Ok e) = (e .start ≡ start) × (e .len ≡ len) × (start + len ≤ 4294966784)
 MakesExtent start len (Err f) = (f ≡ file′.Range) × (4294966784 < start + len)
@@ -30,7 +30,7 @@ On m e = e .start + e .len ≤ 512 * m .sectors
 abbrev pub file : Meaning → Extent → List ℕ
 file m e = part (m .bytes) (e .start) (e .len)
 
--- the file can be read: the extent lies on the device, power is on, and no sector that it touches is bad
+-- the file can be read: it is on the device whole, there is power, and none of its bytes is in a bad sector
 pub record Readable (m : Meaning) (e : Extent) : Type 0 where
   pub on : On m e
   pub power : m .power ≡ true
