@@ -21,9 +21,9 @@ use Rattle.cdb.proofs.Owner.{owned}
 use Rattle.cdb.proofs.Pigeon.{has-nil, has-head, has-tail, has-cons-cases}
 use Rattle.cdb.proofs.ByTable.{of-table}
 use Rattle.cdb.proofs.Slots.{slot-at}
-use Rattle.auditing.specs.Searches.{itemAt, Overtakes}
-use Rattle.auditing.specs.Sweeps.{Swept}
-use Rattle.auditing.proofs.Sweeping.{item-in}
+use Rattle.scanning.specs.Searches.{itemAt, Overtakes}
+use Rattle.scanning.specs.Sweeps.{Swept}
+use Rattle.scanning.proofs.Sweeping.{item-in}
 
 -- the items split at each of them, and those before it have smaller places
 split-at : (f : List ℕ) (q end : ℕ) (rs : List Record) (x : Item) → Records f q end rs → Has (items q rs) x

@@ -1,10 +1,4 @@
-pub mod Entries
-pub mod Walks
-pub mod Probes
-pub mod Ranks
 pub mod Fillings
-pub mod Meets
-pub mod Sweeping
 pub mod Breaks
 pub mod Rulings
 pub mod Answering

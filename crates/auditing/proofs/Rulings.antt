@@ -22,12 +22,12 @@ use Rattle.cdb.specs.Verdicts.{refused, slotsBelow, Judged, broken-4, broken-5,
 use Rattle.cdb.proofs.Placement.{length-slotsAt}
 use Rattle.cdb.proofs.FileLookup.{one-reading}
 use Rattle.cdb.proofs.Slots.{slot-at}
-use Rattle.auditing.specs.declared.records.Spot.{Spot}
-use Rattle.auditing.specs.Searches.{itemAt}
-use Rattle.auditing.specs.Sweeps.{CountTo, Placed, Lost}
+use Rattle.scanning.specs.declared.records.Spot.{Spot}
+use Rattle.scanning.specs.Searches.{itemAt}
+use Rattle.scanning.specs.Sweeps.{CountTo, Placed, Lost}
 use Rattle.auditing.specs.Tables.{filledIn, Counted, Room, ClearAt, TableClear, Ruled}
 use Rattle.auditing.specs.Audits.{verdict}
-use Rattle.auditing.proofs.Meets.{probes-placed}
+use Rattle.scanning.proofs.Meets.{probes-placed}
 use Rattle.auditing.proofs.Breaks.{swept-passes, swept-breaks}
 
 abbrev full : Slot → Bool

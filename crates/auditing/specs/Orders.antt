@@ -7,7 +7,7 @@ use Rattle.std.specs.declared.result.Result.the-variants.{Ok, Err}
 use Rattle.faults.specs.declared.file.FileFault.{FileFault}
 use Rattle.faults.specs.declared.file.FileFault.the-variants.{Order}
 use Rattle.cdb.specs.Records.{tableOf}
-use Rattle.auditing.specs.Searches.{itemAt}
+use Rattle.scanning.specs.Searches.{itemAt}
 
 -- done if there is none before end, else refused by its table and place
 abbrev pub Ordered : List ℕ → ℕ → ℕ → Result (Unit {0}) FileFault → Type 0

@@ -13,7 +13,7 @@ use Rattle.faults.specs.declared.file.FileFault.the-variants as fault
 use Rattle.cdb.specs.Tables.{Slot}
 use Rattle.cdb.specs.Files.{position, slotCount, slotsAt}
 use Rattle.cdb.specs.Rules.{First, Each}
-use Rattle.auditing.specs.declared.records.Spot.{Spot}
+use Rattle.scanning.specs.declared.records.Spot.{Spot}
 
 -- how many of len slots at pos are filled
 abbrev pub filledIn : List ℕ → ℕ → ℕ → ℕ

@@ -8,7 +8,7 @@ ghost use Rattle.cdb.specs.Files.{ends};
 ghost use Rattle.cdb.specs.Rules.{First, Each};
 ghost use Rattle.file.specs.Extents.{Ready, file};
 ghost use Rattle.auditing.specs.Tables.{filledIn, Counted, Room, ClearAt, TableClear, FirstSlot, FirstTable, Ruled};
-use crate::records::Spot;
+use scanning::records::Spot;
 use device::device::Device;
 use faults::file::FileFault;
 use file::extents::Extent;

@@ -17,7 +17,7 @@ use Rattle.cdb.specs.Rules.{Each, Rule1, Rule2}
 use Rattle.cdb.specs.Verdicts.{refused, Judged, broken-1, broken-2, broken-3}
 use Rattle.file.specs.declared.extents.Extent.{Extent}
 use Rattle.file.specs.Extents.{file, WordsAt}
-use Rattle.auditing.specs.Sweeps.{CountTo, Past, Ahead, Placed, Lost}
+use Rattle.scanning.specs.Sweeps.{CountTo, Past, Ahead, Placed, Lost}
 use Rattle.auditing.specs.Tables.{Ruled}
 use Rattle.auditing.specs.Orders.{Ordered}
 use Rattle.auditing.specs.Audits.{verdict}
