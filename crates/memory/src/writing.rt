@@ -18,6 +18,7 @@ use crate::sectors::copy_out;
 use device::checks::is_within;
 use device::device::Device;
 use faults::device::DeviceFault;
+pub use storing::WriteMemoryWritable;
 
 /// The writes that a memory has left.
 #[derive(Clone, Copy)]

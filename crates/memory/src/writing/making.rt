@@ -12,7 +12,7 @@ use super::WriteMemory;
 use crate::sectors::count_sectors;
 
 impl<'a> WriteMemory<'a> {
-    /// A device with the bytes of `bytes`, as many sectors as fit, none bad, power on, and so many writes left.
+    /// The sectors that fit into `bytes`: all good, with power, and with so many writes left.
     pub fn new(bytes: &'a mut [u8], left: Budget, tear: RootTear) -> WriteMemory<'a>
         ensures meaning { λ r. ⌜ as-device .meaning r ≡ memory (now (bytes .entry)) true (writes left) ⌝ }
         ensures tear { λ r. ⌜ r .tear ≡ tear ⌝ }

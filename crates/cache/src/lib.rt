@@ -1,0 +1,3 @@
+//! The page cache over any device.
+pub mod layer;
+mod pages;

@@ -1,0 +1,16 @@
+//! Tests of the devices, and a device that counts what is read from the one below.
+#[cfg(test)]
+mod asks;
+pub mod counted;
+#[cfg(test)]
+mod marking;
+#[cfg(test)]
+mod nothing;
+#[cfg(test)]
+mod paging;
+#[cfg(test)]
+mod refusals;
+#[cfg(test)]
+mod stacking;
+#[cfg(test)]
+mod tearing;

@@ -1,0 +1,3 @@
+pub mod MarkReports
+pub mod Marks
+pub mod Layers
