@@ -8,16 +8,16 @@ ghost use Rattle.file.specs.Extents.{Ready, file};
 ghost use Rattle.auditing.specs.Audits.{verdict, Audited, OnlyAnswer, AcceptedExactlyWhenMade, OneRecordList};
 ghost use Rattle.auditing.specs.Orders.{Ordered};
 use crate::audits::Counts;
-use scanning::header::broken_entry;
-use scanning::placing::place_records;
 use crate::tables::check_tables;
-use scanning::walk::count_records;
 use device::device::Device;
 use faults::file::FileFault;
 use file::extents::Extent;
 use file::plain::hash_in;
 use file::plain::words_in;
 use file::readable::check_readable;
+use scanning::header::broken_entry;
+use scanning::placing::place_records;
+use scanning::walk::count_records;
 
 /// The bytes of a header: an entry of two words for each of 256 tables.
 const HEADER: u32 = 2048;

@@ -8,11 +8,11 @@ ghost use Rattle.cdb.specs.Files.{ends};
 ghost use Rattle.cdb.specs.Rules.{First, Each};
 ghost use Rattle.file.specs.Extents.{Ready, file};
 ghost use Rattle.auditing.specs.Tables.{filledIn, Counted, Room, ClearAt, TableClear, FirstSlot, FirstTable, Ruled};
-use scanning::records::Spot;
 use device::device::Device;
 use faults::file::FileFault;
 use file::extents::Extent;
 use file::plain::words_in;
+use scanning::records::Spot;
 
 /// How many of the slots of a table are filled.
 fn count_filled<D: Device>(d: &mut D, e: Extent, pos: u32, len: u32) -> u32

@@ -104,7 +104,8 @@ off-stored m p ys w inner fit =
 off-cut : (m m′ : Meaning) (p : ℕ) (ys : List ℕ) → Cut m p ys m′ → Off m p m′
 off-cut m m′ p ys cut = record { sectors = cut .sectors; long = cut .bytes .long; apart = cut .bytes .apart }
 
-fits-in : (n p k : ℕ) → within n p k ≡ true → (0 < k) × (p % 512 + k ≤ 512) × (p + k ≤ 512 * n)
+-- what a piece inside the device is
+pub fits-in : (n p k : ℕ) → within n p k ≡ true → (0 < k) × (p % 512 + k ≤ 512) × (p + k ≤ 512 * n)
 fits-in n p k h =
     let a = and-parts (ltb 0 k) _ h in
     let b = and-parts (leb (p % 512 + k) 512) _ (a .1) in

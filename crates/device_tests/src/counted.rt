@@ -7,30 +7,31 @@ use faults::device::DeviceFault;
 
 /// A device that counts its reads.
 #[derive(Drop)]
-pub struct Counted<D> {
+pub(crate) struct Counted<D> {
     below: D,
     reads: u32,
 }
 
 impl<D: Device> Counted<D> {
     /// No read yet.
-    pub fn new(below: D) -> Counted<D>
+    pub(crate) fn new(below: D) -> Counted<D>
         requires { ⌜ D·Device .sound below ⌝ }
         ensures meaning { λ r. ⌜ D·Device .meaning (r .below) ≡ D·Device .meaning below ⌝ }
+        ensures reads { λ r. ⌜ r .reads ≡ 0 ⌝ }
         ensures sound { λ r. ⌜ D·Device .sound (r .below) ⌝ }
     {
         Counted { below, reads: 0 }
     }
 
     /// How many reads there were.
-    pub fn reads(&self) -> u32
+    pub(crate) fn reads(&self) -> u32
         ensures { λ r. ⌜ r ≡ now (self .entry) .reads ⌝ }
     {
         self.reads
     }
 }
 
-pub impl<D: Device> Device for Counted<D> as CountedDevice {
+pub(crate) impl<D: Device> Device for Counted<D> as CountedDevice {
     ghost meaning = { λ d. D·Device .meaning (d .below) };
 
     ghost sound = { λ d. D·Device .sound (d .below) };
@@ -49,7 +50,7 @@ pub impl<D: Device> Device for Counted<D> as CountedDevice {
     }
 }
 
-pub impl<D: WritableDevice> WritableDevice for Counted<D> as CountedWritable {
+pub(crate) impl<D: WritableDevice> WritableDevice for Counted<D> as CountedWritable {
     fn write(&mut self, place: u32, piece: &[u8]) -> Result<(), DeviceFault> {
         self.below.write(place, piece)
     }

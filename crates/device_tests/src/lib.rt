@@ -1,7 +1,8 @@
 //! Tests of the devices, and a device that counts what is read from the one below.
 #[cfg(test)]
 mod asks;
-pub mod counted;
+#[cfg(test)]
+mod counted;
 #[cfg(test)]
 mod marking;
 #[cfg(test)]

@@ -1,21 +1,16 @@
 //! Memory for writing.
 
 ghost use mathlib.Core.Path.{_≡_};
-ghost use mathlib.Core.Bool.{true};
-ghost use Prim.Native.Nat.{ℕ, _-_, _*_, _/_};
-ghost use lib.ListN.{length, take};
 ghost use denote.Ref.{now};
 ghost use Rattle.std.specs.Options.{mapped};
-ghost use Rattle.bytes.specs.Bytes.{part};
-ghost use Rattle.device.specs.Meanings.{Whole, spent, within};
+ghost use Rattle.device.specs.Meanings.{Whole, spent};
 ghost use Rattle.memory.specs.Memories.{memory, fitting};
 ghost use Rattle.memory.specs.Writing.{writes, torn-stored};
 
 mod making;
+mod reading;
 mod storing;
 
-use crate::sectors::copy_out;
-use device::checks::is_within;
 use device::device::Device;
 use faults::device::DeviceFault;
 pub use storing::WriteMemoryWritable;
@@ -79,16 +74,6 @@ impl RootTear {
     }
 }
 
-impl<'a> WriteMemory<'a> {
-    /// Fills a piece with what the sectors hold at its place.
-    fn copy_out(&self, place: u32, piece: &mut [u8])
-        requires { ⌜ within (fitting (now (now self .bytes))) place (length (now piece)) ≡ true ⌝ }
-        ensures { λ _. ⌜ now (piece .exit) ≡ part (take (512 * fitting (now (now (self .entry) .bytes))) (now (now (self .entry) .bytes))) place (length (now (piece .entry))) ⌝ }
-    {
-        copy_out(self.bytes, place, piece);
-    }
-}
-
 pub impl<'a> Device for WriteMemory<'a> as WriteMemoryDevice {
     ghost meaning = { λ d. memory (now (d .bytes)) (d .power) (writes (d .left)) };
 
@@ -99,23 +84,10 @@ pub impl<'a> Device for WriteMemory<'a> as WriteMemoryDevice {
     }
 
     fn state(&mut self, sector: u32) -> Result<(), DeviceFault> {
-        if sector >= self.sectors {
-            return Err(DeviceFault::Range);
-        }
-        if !self.power {
-            return Err(DeviceFault::Power);
-        }
-        Ok(())
+        WriteMemory::state(self, sector)
     }
 
     fn read(&mut self, place: u32, piece: &mut [u8]) -> Result<(), DeviceFault> {
-        if !is_within(self.sectors, place, piece.len()) {
-            return Err(DeviceFault::Range);
-        }
-        if !self.power {
-            return Err(DeviceFault::Power);
-        }
-        self.copy_out(place, piece);
-        Ok(())
+        WriteMemory::read(self, place, piece)
     }
 }

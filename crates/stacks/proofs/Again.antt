@@ -3,11 +3,9 @@ use mathlib.Core.Path.{_≡_, refl, sym, _∙_, ap, subst}
 use mathlib.Core.List.{List, _++_}
 use mathlib.Core.Bool.{Bool, true, false, cond}
 use Prim.Native.Nat.{ℕ, _+_, _*_, _/_, _%_, _≤_}
-use lib.Dec.{leb, ltb}
 use lib.ListN.{length, take, drop}
 use native.Mathlib.Omega.{arith}
 use Rattle.std.proofs.shelf.Lists.{drop-at, take-at, length-take-le}
-use Rattle.std.proofs.shelf.Tests.{and-parts, leb-true, false≢true}
 use Rattle.std.specs.Results.{isOk}
 use Rattle.std.specs.declared.option.Option.{Option}
 use Rattle.std.specs.declared.option.Option.the-variants.{Some, None}
@@ -15,6 +13,8 @@ use Rattle.std.specs.declared.result.Result.{Result}
 use Rattle.std.specs.declared.result.Result.the-variants.{Ok, Err}
 use Rattle.bytes.specs.Bytes.{part, laid}
 use Rattle.faults.specs.declared.device.DeviceFault.{DeviceFault}
+use Rattle.cache.proofs.Changing.{fits-in}
+use Rattle.cache.proofs.Paging.{read-done}
 use Rattle.device.specs.Meanings.{Meaning, Writes, Whole, within, refuses, refusal, answer, filled, spent, Spends, Writes-by, Written}
 
 part-laid : (xs : List ℕ) (p : ℕ) (ys : List ℕ) → p + length ys ≤ length xs → part (laid xs p ys) p (length ys) ≡ ys
@@ -34,19 +34,14 @@ done-bytes : (o : Option DeviceFault) (m m′ : Meaning) (p : ℕ) (ys : List �
 done-bytes None m m′ p ys e = spent-bytes (spent (m .left)) m m′ p ys e
 done-bytes (Some f) m m′ p ys e = absurd (let r = e .0 in let z : _≡_ {A = ℕ} 0 1 = cc in omega arith)
 
-filled-done :
-    (o : Option DeviceFault) (r : Result (Unit {0}) DeviceFault) (new old piece : List ℕ) → r ≡ answer o → r ≡ Ok tt → piece ≡ filled o new old → piece ≡ new
-filled-done None r new old piece a k e = e
-filled-done (Some f) r new old piece a k e = absurd (false≢true (sym (ap isOk a) ∙ ap isOk k))
-
 -- a write that is done, then a read of the same place that is done
 pub reads-again :
     (m m′ : Meaning) (p n : ℕ) (ys old piece : List ℕ) (r : Result (Unit {0}) DeviceFault) → n ≡ length ys → Whole m → Written m p ys (Ok tt) m′
     → r ≡ answer (refusal m′ p n) → r ≡ Ok tt → piece ≡ filled (refusal m′ p n) (part (m′ .bytes) p n) old → piece ≡ ys
 reads-again m m′ p n ys old piece r long whole w a k e =
-    let inside : within (m .sectors) p (length ys) ≡ true = within-by (within (m .sectors) p (length ys)) (refuses m (p / 512)) _ m m′ p ys w in
-    let low = and-parts (leb (p % 512 + length ys) 512) _ (and-parts (ltb 0 (length ys)) _ inside .1) in
-    let fit : p + length ys ≤ length (m .bytes) = omega (arith, whole .long, leb-true (p + length ys) (512 * m .sectors) (low .1)) in
-    filled-done (refusal m′ p n) r (part (m′ .bytes) p n) old piece a k e
+    let inside : within (m .sectors) p (length ys) ≡ true =
+    within-by (within (m .sectors) p (length ys)) (refuses m (p / 512)) _ m m′ p ys w in
+    let fit : p + length ys ≤ length (m .bytes) = omega (arith, whole .long, fits-in (m .sectors) p (length ys) inside .2) in
+    read-done (refusal m′ p n) r (part (m′ .bytes) p n) old piece a (ap isOk k) e
     ∙ ap (λ (xs : List ℕ). part xs p n) (done-bytes (refusal m p (length ys)) m m′ p ys w)
     ∙ ap (λ (j : ℕ). part (laid (m .bytes) p ys) p j) long ∙ part-laid (m .bytes) p ys fit

@@ -9,7 +9,7 @@ use super::ReadMemory;
 use crate::sectors::count_sectors;
 
 impl<'a> ReadMemory<'a> {
-    /// The sectors that fit into `bytes`: all good, and with power.
+    /// A device of lent bytes: all their whole sectors, each good, with power on.
     pub fn new(bytes: &'a [u8]) -> ReadMemory<'a>
         ensures meaning { λ r. ⌜ as-device .meaning r ≡ memory (now (bytes .entry)) true endless ⌝ }
         ensures sound { λ r. ⌜ as-device .sound r ⌝ }

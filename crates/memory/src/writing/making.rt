@@ -12,7 +12,7 @@ use super::WriteMemory;
 use crate::sectors::count_sectors;
 
 impl<'a> WriteMemory<'a> {
-    /// The sectors that fit into `bytes`: all good, with power, and with so many writes left.
+    /// A device of lent bytes: all their whole sectors, each good, with power on and this budget of writes.
     pub fn new(bytes: &'a mut [u8], left: Budget, tear: RootTear) -> WriteMemory<'a>
         ensures meaning { λ r. ⌜ as-device .meaning r ≡ memory (now (bytes .entry)) true (writes left) ⌝ }
         ensures tear { λ r. ⌜ r .tear ≡ tear ⌝ }

@@ -24,8 +24,8 @@ after g c =
     let ok : isOk (c .read .result) ≡ true = ap isOk (c .in-Continue-read .was tt) in
     let full : c .read .last .piece ≡ part (g .D·Device .meaning (c .args .self .now .below) .bytes) (512 * c .args .sector) 512 =
     read-done _ (c .read .result) _ _ (c .read .last .piece) (c .read .ensures .answer) ok (c .read .ensures .piece) in
-    c .fill .ensures .after
-    ∙ ap (λ (bs : List ℕ). set (c .args .self .now .pages .table) (c .args .sector % 8) (record { sector = Some (c .args .sector); bytes = bs })) full
+    subst (λ (bs : List ℕ). c .fill .last .self .table ≡ set (c .args .self .now .pages .table) (c .args .sector % 8) (record { sector = Some (c .args .sector); bytes = bs }))
+    full (c .fill .ensures .after)
 
 pub returns : need.returns
 returns g c =

@@ -1,0 +1,10 @@
+pub mod Counting
+pub mod Slotted
+pub mod Ranged
+pub mod Settled
+pub mod Grown
+pub mod Begun
+pub mod Headed
+pub mod Tabling
+pub mod Made
+pub mod Emptied

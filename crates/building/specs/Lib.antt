@@ -1,0 +1,4 @@
+pub mod Entries
+pub mod Closes
+pub mod Builds
+pub mod Empty

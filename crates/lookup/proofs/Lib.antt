@@ -1,0 +1,4 @@
+pub mod Around
+pub mod Pieces
+pub mod Placed
+pub mod One

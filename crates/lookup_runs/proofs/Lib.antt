@@ -1,0 +1,4 @@
+pub mod Held
+pub mod Walking
+pub mod Stepping
+pub mod Giving

@@ -1,0 +1,3 @@
+pub mod Datas
+pub mod Runs
+pub mod Laws

@@ -1,0 +1,5 @@
+pub mod Formatted
+pub mod Closing
+pub mod Inside
+pub mod Standing
+pub mod Held

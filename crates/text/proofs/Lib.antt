@@ -1,0 +1,9 @@
+pub mod Numbers
+pub mod Lines
+pub mod Stuck
+pub mod Turns
+pub mod Rests
+pub mod Proved
+pub mod Counting
+pub mod Filling
+pub mod Sampled

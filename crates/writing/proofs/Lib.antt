@@ -1,0 +1,4 @@
+pub mod Keeping
+pub mod Running
+pub mod Zeroed
+pub mod Recorded
