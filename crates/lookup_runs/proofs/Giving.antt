@@ -234,7 +234,7 @@ module _ (whole : List ℕ) (rs : List Record) (law : LawfulFile whole rs) (e : 
   in-turn-more (suc n) (y ∷ ys) = ap (λ (rs : List Answered). Ok (Some (dataOfItem whole y)) ∷ rs) (in-turn-more n ys)
 
   -- a next with the key
-  next-step : (m : Meaning) → Holding whole e m → (c : Cursor) (ys : List Item) → State whole rs law e key c ys → (r : Answered) (c′ : Cursor) → Next m c key r c′ →
+  pub next-step : (m : Meaning) → Holding whole e m → (c : Cursor) (ys : List Item) → State whole rs law e key c ys → (r : Answered) (c′ : Cursor) → Next m c key r c′ →
       (r ≡ answer ys) × State whole rs law e key c′ (tailOf whole rs law e key ys)
   next-step m h c ys s r c′ (nexts.outside a) = absurd (a (subst (On m) (sym (s .of .extent)) (h .readable .on)))
   next-step m h c ys s r c′ (nexts.other-key a b) = absurd (b (sym (s .of .hash)))
@@ -299,10 +299,10 @@ module _ (whole : List ℕ) (rs : List Record) (law : LawfulFile whole rs) (e : 
       rw (cond-false (sameBytes (r .key) key) (x ∷ kept-by t (items (p + size r) ss)) (kept-by t (items (p + size r) ss)) b, cond-false (sameBytes (r .key) key) (dataAt p r ∷ datas (p + size r) ss key) (datas (p + size r) ss key) b) rest)
       (cases-bool (sameBytes (r .key) key))
 
-  first : List Item
+  pub first : List Item
   first = kept-by (λ x. sameBytes (x .key) key) (items 2048 rs)
 
-  first-found : found first ≡ datas 2048 rs key
+  pub first-found : found first ≡ datas 2048 rs key
   unfolding first
   first-found = datas-are 2048 (position whole 0) rs (law .read)
 
@@ -364,9 +364,14 @@ module _ (whole : List ℕ) (rs : List Record) (law : LawfulFile whole rs) (e : 
   start-of : (m : Meaning) → Holding whole e m → Of whole e key (fresh m e key)
   start-of m h = record { extent = refl; hash = refl; position = word-is whole e m h (8 * tableOf key); slots = word-is whole e m h (8 * tableOf key + 4) }
 
+  -- at a start all items of the key are to come
+  pub start-state : (m : Meaning) → Holding whole e m → State whole rs law e key (fresh m e key) first
+  unfolding first
+  start-state m h = record { of = start-of m h; gives = file-lookup whole rs law key }
+
   sofar-start : (m : Meaning) → Holding whole e m → Sofar [] (fresh m e key)
-  unfolding left first
-  sofar-start m h = record { answers = refl; each = tt; state = record { of = start-of m h; gives = file-lookup whole rs law key } }
+  unfolding left
+  sofar-start m h = record { answers = refl; each = tt; state = start-state m h }
 
   -- a start is done
   pub starts-fresh : (m : Meaning) (r : Result Cursor FileFault) → Holding whole e m → Start m e key r → r ≡ Ok (fresh m e key)

@@ -1,6 +1,8 @@
-//! Reads the texts that two other makers were given, and the files that they made of them, and tells what was found.
+//! Reads the texts that two other makers were given, and the files that they made of them, looks every key up, and tells
+//! what was found.
 
 use bytes::slices::equal;
+use c_calls::in_memory::find_in_memory;
 use faults::file::FileFaultPartialEq;
 use records::placed::PlacedRecord;
 use records::reader::RecordReader;
@@ -50,7 +52,12 @@ fn both(rt: &LibcRuntime, name: &str) -> Result<(), AnyError> {
     let counted = compared(rt, &text, &file)?;
     let records = counted.records;
     let bytes = counted.bytes;
-    Ok(println!(rt, "{name}: ok,{records},{bytes}, same records, same text")?)
+    Ok(
+        println!(
+            rt,
+            "{name}: ok,{records},{bytes}, same records, same text, all found"
+        )?,
+    )
 }
 
 fn compared(rt: &LibcRuntime, text: &[u8], file: &[u8]) -> Result<Tally, AnyError> {
@@ -78,6 +85,9 @@ fn compared(rt: &LibcRuntime, text: &[u8], file: &[u8]) -> Result<Tally, AnyErro
     let again = lent(rt, &from_file)?;
     if !written(rt, &from_text, text)? || !written(rt, &again, text)? {
         return Err("the text does not come back".into());
+    }
+    if !looked_up(rt, &from_file, file)? {
+        return Err("a lookup gives other data".into());
     }
     Ok(counted)
 }
@@ -129,6 +139,59 @@ fn written(rt: &LibcRuntime, records: &[LentRecord<'_>], text: &[u8]) -> Result<
     let mut buffer = vec![in rt.alloc(); 0u8; text.len()]?;
     let written = write_text(records, &mut buffer);
     Ok(written == Ok(text.len()) && equal(&buffer, text))
+}
+
+/// Whether each record's data are found under its key, by the record's number among those of the key, and none after the last.
+fn looked_up(
+    rt: &LibcRuntime,
+    records: &[PlacedRecord<'_>],
+    file: &[u8],
+) -> Result<bool, AnyError> {
+    if file.len() > 4294966784 {
+        return Err("the file is too long".into());
+    }
+    let len = file.len() as u32;
+    let mut memory = Vec::new(rt.alloc());
+    memory.extend_from_slice(file)?;
+    // Memory is read in whole sectors, and the last one of a file is seldom full.
+    memory.extend_from_slice(&[0; 512])?;
+    for record in records {
+        let before = count_before(records, record.key, record.place);
+        let all = count_before(records, record.key, len);
+        if !finds(&memory, len, record, before) || !ends(&memory, len, record.key, all) {
+            return Ok(false);
+        }
+    }
+    Ok(true)
+}
+
+/// How many records of a key stand before a place.
+fn count_before(records: &[PlacedRecord<'_>], key: &[u8], place: u32) -> u32 {
+    let mut n = 0u32;
+    for record in records {
+        if record.place < place && equal(record.key, key) {
+            n = n.saturating_add(1);
+        }
+    }
+    n
+}
+
+fn finds(memory: &[u8], len: u32, record: &PlacedRecord<'_>, n: u32) -> bool {
+    match find_in_memory(memory, len, record.key, n) {
+        Ok(Some(found)) => {
+            found.place == record.data_place && found.len as usize == record.data.len()
+        }
+        Ok(None) => false,
+        Err(_) => false,
+    }
+}
+
+fn ends(memory: &[u8], len: u32, key: &[u8], n: u32) -> bool {
+    match find_in_memory(memory, len, key, n) {
+        Ok(None) => true,
+        Ok(Some(_)) => false,
+        Err(_) => false,
+    }
 }
 
 /// A file alone: how many records it has, or how it is refused.

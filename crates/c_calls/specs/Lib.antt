@@ -1,0 +1,2 @@
+pub mod InMemory
+pub mod Exports

@@ -1,0 +1,2 @@
+//! The data of a key by their number.
+pub mod nth;
