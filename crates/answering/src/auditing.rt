@@ -6,7 +6,7 @@ ghost use Rattle.answering.specs.Answers.{Answers, answer_verdict};
 
 use crate::answers::Answer;
 use auditing::auditing::audit;
-use bytes::slices::lay_over;
+use byte_lists::slices::lay_over;
 use faults::report::Report;
 use file::extents::Extent;
 use memory::reading::ReadMemory;

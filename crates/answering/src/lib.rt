@@ -1,4 +1,6 @@
 //! From the bytes of a file to the line that tells the audit's answer.
+#![tactic(auto)]
+
 pub mod answers;
 pub mod auditing;
 pub mod line;

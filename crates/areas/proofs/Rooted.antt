@@ -1,9 +1,9 @@
 -- The bytes of a root.
 use Rattle.std.proofs.Common.{◌≡◌, ℕ, ◌+◌, ◌-◌, ◌*◌, ◌^◌, ◌<◌, ◌≤◌, List, ◌++◌, length, take, drop, replicate, Some, None, Ok, Err, Option, Result, sym, refl, ap, ◌∙◌, subst, arith}
 use Rattle.std.proofs.lemmas.List.{length-append, drop-replicate, length-replicate}
-use Rattle.bytes.specs.Bytes.{part, word, word_at}
-use Rattle.bytes.proofs.Parts.{At, at_both, at_self}
-use Rattle.bytes.proofs.Words.{word_read}
+use Rattle.byte_lists.specs.Bytes.{part, word, word_at}
+use Rattle.byte_lists.proofs.Parts.{At, at_both, at_self}
+use Rattle.byte_lists.proofs.Words.{word_read}
 use Rattle.faults.specs.declared.device.DeviceFault.{DeviceFault}
 use Rattle.device.specs.Meanings.{Meaning, refusal, answer, filled}
 use Rattle.areas.specs.declared.area.Area.{Area}

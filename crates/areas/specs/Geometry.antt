@@ -1,6 +1,6 @@
 -- Where the root and the two areas of a shelf lie on its device.
 use Rattle.std.specs.Prelude.{◌≡◌, ℕ, ◌+◌, ◌-◌, ◌*◌, ◌/◌, List, ◌++◌, replicate, Some, None, Option, ◌≢◌}
-use Rattle.bytes.specs.Bytes.{word}
+use Rattle.byte_lists.specs.Bytes.{word}
 use Rattle.areas.specs.declared.area.Area.{Area}
 use Rattle.areas.specs.declared.area.Area.TheVariants.{Zero, One}
 

@@ -1,6 +1,6 @@
 -- The root of a shelf on its device.
 use Rattle.std.specs.Prelude.{◌≡◌, ℕ, ◌≤◌, List}
-use Rattle.bytes.specs.Bytes.{part}
+use Rattle.byte_lists.specs.Bytes.{part}
 use Rattle.device.specs.Meanings.{Meaning}
 use Rattle.areas.specs.declared.area.Area.{Area}
 use Rattle.areas.specs.Geometry.{area_size, root_bytes}

@@ -7,7 +7,7 @@ ghost use Rattle.areas.specs.Steps.{WritesRoot, ReadsSector, RootIn, ReadsRoot};
 
 use crate::area::Area;
 use crate::places::area_size;
-use bytes::slices::{equal, lay_over, two_words, word_at};
+use byte_lists::slices::{equal, lay_over, two_words, word_at};
 use device::device::{Device, WritableDevice};
 use faults::file::{FileFault, add_place};
 

@@ -1,4 +1,5 @@
 //! Audits the cdb file on standard input, and prints one line.
+#![tactic(auto)]
 
 use answering::auditing::audit_input;
 use answering::line::line;

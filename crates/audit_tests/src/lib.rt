@@ -1,4 +1,5 @@
 //! The limit of the audit program, and the lines that it prints.
+#![tactic(auto)]
 
 #[cfg(test)]
 mod tests {

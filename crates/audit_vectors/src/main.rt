@@ -1,4 +1,5 @@
 //! Audits each file that is named, and prints its name and its line: files of two other makers, and damaged ones.
+#![tactic(auto)]
 
 use answering::auditing::audit_input;
 use answering::line::line;

@@ -1,6 +1,6 @@
 -- Rules 5 to 7, table by table, where the numbers of records are known.
 use Rattle.std.specs.Prelude.{◌≡◌, ℕ, ◌+◌, ◌*◌, ◌<◌, List, Ok, Err, count_by, Result, nat_lt, slice_index}
-use Rattle.bytes.specs.Bytes.{word_at}
+use Rattle.byte_lists.specs.Bytes.{word_at}
 use Rattle.faults.specs.declared.file.FileFault.{FileFault}
 use Rattle.faults.specs.declared.file.FileFault.TheVariants as fault
 use Rattle.cdb.specs.Tables.{Slot}

@@ -1,7 +1,7 @@
 //! The audit.
 
 ghost use Rattle.std.specs.Prelude.{◌≡◌, ℕ, ◌+◌, ◌-◌, ◌*◌, ◌/◌, ◌%◌, ◌^◌, ◌<◌, ◌≤◌};
-ghost use Rattle.bytes.specs.Bytes.{word_at};
+ghost use Rattle.byte_lists.specs.Bytes.{word_at};
 ghost use Rattle.cdb.specs.Verdicts.{Judged};
 ghost use Rattle.file.specs.Extents.{Ready, file};
 ghost use Rattle.auditing.specs.Audits.{verdict, Audited, OnlyAnswer, AcceptedExactlyWhenMade, OneRecordList};

@@ -1,7 +1,7 @@
 -- Tables that start empty.
 use Rattle.std.proofs.Common.{◌≡◌, ℕ, zero, suc, ◌+◌, ◌-◌, ◌*◌, ◌/◌, ◌%◌, ◌^◌, ◌<◌, ◌≤◌, Bool, true, false, ◌⊎◌, List, [], ◌∷◌, ◌++◌, length, get_or, take, drop, replicate, Ok, Err, sum, Result, sym, refl, ap, ◌∙◌, subst, inl, inr, ⊎_elim, arith}
 use Rattle.std.proofs.lemmas.List.{get_or-replicate}
-use Rattle.bytes.proofs.Parts.{At, at_get_d}
+use Rattle.byte_lists.proofs.Parts.{At, at_get_d}
 use Rattle.faults.specs.declared.device.DeviceFault.{DeviceFault}
 use Rattle.device.specs.Meanings.{Meaning, Whole, is_bad}
 use Rattle.cdb.specs.Tables.{Slot, blank, Fills, start}

@@ -5,7 +5,7 @@ use Rattle.std.proofs.lemmas.List.Sums.{sum_by-cons, sum_by-take-le, count_by_mo
 use Rattle.std.proofs.lemmas.List.Elements.{filter_more}
 use Rattle.std.proofs.lemmas.Bool.{cases_lt, cases_eq, eq-eqb, ne_eqb}
 use Rattle.std.proofs.lemmas.List.{length-replicate, length-set, length_push, length-map, map-append, append-nil, take_all}
-use Rattle.bytes.specs.Bytes.{word_at}
+use Rattle.byte_lists.specs.Bytes.{word_at}
 use Rattle.device.specs.Meanings.{Meaning, is_bad}
 use Rattle.cdb.specs.Tables.{Slot, blank, slot, Empty, home, slot_away, Puts, Fills, start, put}
 use Rattle.cdb.specs.Files.{slots_at}

@@ -2,9 +2,9 @@
 use Rattle.std.proofs.Common.{◌≡◌, ℕ, zero, suc, ◌+◌, ◌-◌, ◌*◌, ◌/◌, ◌%◌, ◌^◌, ◌<◌, ◌≤◌, ◌⊎◌, List, [], ◌∷◌, ◌++◌, length, get_or, take, Ok, Err, sum, Result, sym, refl, ap, ◌∙◌, subst, inl, inr, ⊎_elim, arith}
 use Rattle.std.proofs.lemmas.List.{length-append}
 use Rattle.std.proofs.lemmas.Bool.{cases_lt}
-use Rattle.bytes.specs.Bytes.{word, word_at}
-use Rattle.bytes.proofs.Parts.{At, at_both}
-use Rattle.bytes.proofs.Words.{word_read}
+use Rattle.byte_lists.specs.Bytes.{word, word_at}
+use Rattle.byte_lists.proofs.Parts.{At, at_both}
+use Rattle.byte_lists.proofs.Words.{word_read}
 use Rattle.faults.specs.declared.device.DeviceFault.{DeviceFault}
 use Rattle.device.specs.Meanings.{Meaning, Whole}
 use Rattle.writing.specs.Runs.{Completed, Interrupted, Runs}

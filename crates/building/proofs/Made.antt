@@ -6,7 +6,7 @@ use Rattle.std.proofs.lemmas.List.{length-map}
 use Rattle.std.proofs.ByRecursion.{All-get_or}
 use Rattle.std.proofs.lemmas.List.Sorted.{IsPermutation-refl}
 use Rattle.std.proofs.lemmas.Bool.{cases_eq}
-use Rattle.bytes.specs.Bytes.{part}
+use Rattle.byte_lists.specs.Bytes.{part}
 use Rattle.cdb.specs.Records.{Record, Item, record_bytes, items, belonging, hash_of, table_of}
 use Rattle.cdb.specs.Tables.{Slot, entry, Fills, Permitted, Roomy}
 use Rattle.cdb.specs.Files.{position, slot_count, slots_at, slots_in}

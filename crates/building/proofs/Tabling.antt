@@ -1,8 +1,8 @@
 -- Tables, then the header.
 use Rattle.std.proofs.Common.{◌≡◌, ℕ, zero, suc, ◌+◌, ◌-◌, ◌*◌, ◌/◌, ◌%◌, ◌^◌, ◌<◌, ◌≤◌, Bool, true, false, ◌⊎◌, List, [], ◌∷◌, ◌++◌, length, get_or, take, drop, sym, refl, ap, ◌∙◌, subst, inl, inr, ⊎_elim, arith}
-use Rattle.bytes.specs.Bytes.{part, word_at}
-use Rattle.bytes.proofs.Parts.{At, part_long}
-use Rattle.bytes.proofs.Words.{word_in}
+use Rattle.byte_lists.specs.Bytes.{part, word_at}
+use Rattle.byte_lists.proofs.Parts.{At, part_long}
+use Rattle.byte_lists.proofs.Words.{word_in}
 use Rattle.faults.specs.declared.device.DeviceFault.{DeviceFault}
 use Rattle.device.specs.Meanings.{Meaning, Whole, is_bad}
 use Rattle.cdb.specs.Tables.{Slot, Fills}

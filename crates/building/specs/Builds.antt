@@ -1,6 +1,6 @@
 -- The steps of building tables on a device.
 use Rattle.std.specs.Prelude.{◌≡◌, ℕ, zero, suc, ◌+◌, ◌*◌, ◌<◌, ◌≤◌, Bool, true, false, List, [], ◌++◌, length, take, Ok, Err, sum, Result, slice_index}
-use Rattle.bytes.specs.Bytes.{word, word_at}
+use Rattle.byte_lists.specs.Bytes.{word, word_at}
 use Rattle.faults.specs.declared.device.DeviceFault.{DeviceFault}
 use Rattle.faults.specs.declared.device.DeviceFault.TheVariants.{Power}
 use Rattle.device.specs.Meanings.{Meaning, is_bad}

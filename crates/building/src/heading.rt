@@ -6,7 +6,7 @@ ghost use Rattle.writing.specs.Runs.{Runs};
 ghost use Rattle.building.specs.Builds.{headed};
 ghost use Rattle.building.specs.Empty.{WritesEmpty};
 
-use bytes::slices::two_words;
+use byte_lists::slices::two_words;
 use device::device::{Device, WritableDevice};
 use faults::device::DeviceFault;
 use faults::file::{FileFault, add_place};

@@ -1,4 +1,6 @@
 //! The tables and the header of a file, written on a device from entries.
+#![tactic(auto)]
+
 pub mod closing;
 pub mod entries;
 mod filling;

@@ -2,13 +2,13 @@
 
 ghost use Rattle.std.specs.Prelude.{◌≡◌, ℕ, ◌+◌, ◌-◌, ◌*◌, ◌/◌, ◌%◌, ◌^◌, ◌<◌, ◌≤◌};
 ghost use Rattle.device.specs.Meanings.{Whole};
-ghost use Rattle.bytes.specs.Bytes.{word_at};
+ghost use Rattle.byte_lists.specs.Bytes.{word_at};
 ghost use Rattle.file.specs.Ranges.{AllRead};
 ghost use Rattle.building.specs.Entries.{slot_of};
 ghost use Rattle.building.specs.Builds.{HasRoom, Nearest, PutsEntry};
 
 use crate::entries::Entry;
-use bytes::slices::two_words;
+use byte_lists::slices::two_words;
 use device::device::{Device, WritableDevice};
 use faults::device::DeviceFault;
 use file::reading::read_words;

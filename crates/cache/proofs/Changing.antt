@@ -5,9 +5,9 @@ use Rattle.std.proofs.lemmas.Slice.{overwrites}
 use Rattle.std.proofs.lemmas.Bool.{cases_eq, cases_lt, and_parts, ltb-true, leb-true, eq-eqb, eqb-true, both_ways, false≢true, cond-true, cond-false}
 use Rattle.faults.specs.declared.device.DeviceFault.{DeviceFault}
 use Rattle.faults.specs.declared.device.DeviceFault.TheVariants.{Range}
-use Rattle.bytes.specs.Bytes.{part, laid}
-use Rattle.bytes.proofs.Parts.{length_part, get_d_part}
-use Rattle.bytes.proofs.Laid.{length_laid, before_laid, past_laid, take_laid}
+use Rattle.byte_lists.specs.Bytes.{part, laid}
+use Rattle.byte_lists.proofs.Parts.{length_part, get_d_part}
+use Rattle.byte_lists.proofs.Laid.{length_laid, before_laid, past_laid, take_laid}
 use Rattle.device.specs.Meanings.{Meaning, Writes, Whole, within, refuses, refusal, spent, stored, Cut, Spends, WritesBy, Written}
 use Rattle.cache.specs.declared.pages.Page.{Page}
 use Rattle.cache.specs.Pages.{page_at, page_of, is_sector, kept, page_for, emptied, EqualTo, AllEqual, after_write}

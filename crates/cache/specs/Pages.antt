@@ -1,6 +1,6 @@
 -- The eight pages of a cache: what they keep, and what each call leaves in them.
 use Rattle.std.specs.Prelude.{◌≡◌, ℕ, ◌*◌, ◌%◌, ◌<◌, Bool, false, cond, List, [], Some, None, Option, ◌==◌, slice_index_or, slice_set}
-use Rattle.bytes.specs.Bytes.{part}
+use Rattle.byte_lists.specs.Bytes.{part}
 use Rattle.faults.specs.declared.device.DeviceFault.{DeviceFault}
 use Rattle.device.specs.Meanings.{Meaning, Writes}
 use Rattle.cache.specs.declared.pages.Page.{Page}

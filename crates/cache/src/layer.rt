@@ -1,7 +1,7 @@
 //! A page cache over any device.
 
 ghost use Rattle.std.specs.Prelude.{◌≡◌, ◌/◌, length};
-ghost use Rattle.bytes.specs.Bytes.{part};
+ghost use Rattle.byte_lists.specs.Bytes.{part};
 ghost use Rattle.device.specs.Meanings.{Whole, refusal, state as state_of, answer, filled};
 ghost use Rattle.cache.specs.Pages.{after_read};
 ghost use Rattle.cache.specs.Caches.{pages_of, meaning_over, sound_over};

@@ -1,10 +1,10 @@
 //! Inner: the eight pages of a cache, each lent from the table to the call that changes it.
 
 ghost use Rattle.std.specs.Prelude.{◌≡◌, ℕ, ◌+◌, ◌/◌, ◌%◌, ◌<◌, ◌≤◌, length, set, if◌then◌else◌, Some, None};
-ghost use Rattle.bytes.specs.Bytes.{part, laid};
+ghost use Rattle.byte_lists.specs.Bytes.{part, laid};
 ghost use Rattle.cache.specs.Pages.{page_at, page_of, kept, emptied};
 
-use bytes::slices::{copy_part, lay_over};
+use byte_lists::slices::{copy_part, lay_over};
 
 /// A page: the sector that it keeps, if any, and that sector's bytes.
 #[derive(Clone, Copy)]

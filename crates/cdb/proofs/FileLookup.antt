@@ -8,7 +8,7 @@ use Rattle.cdb.proofs.FileProof.{belonging_in_file}
 use Rattle.cdb.specs.Records.{Item, hash_of}
 use Rattle.cdb.proofs.TableLaw.{Gives}
 use Rattle.cdb.specs.Records.{Record, size, items, belonging, table_of, Records}
-use Rattle.bytes.specs.Bytes.{part, word_at}
+use Rattle.byte_lists.specs.Bytes.{part, word_at}
 use Rattle.cdb.specs.Files.{position, slot_count, slots_at}
 use Rattle.cdb.proofs.TableLaw.{LawfulFile}
 

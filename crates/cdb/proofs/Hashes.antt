@@ -3,8 +3,8 @@ use Rattle.std.proofs.Common.{◌≡◌, ℕ, ◌+◌, ◌*◌, ◌%◌, ◌^◌
 use lib.Bits.{bit_xor}
 use Rattle.std.proofs.lemmas.List.Sums.{fold_more}
 use Rattle.std.proofs.lemmas.List.{take_all}
-use Rattle.bytes.specs.Bytes.{part}
-use Rattle.bytes.proofs.Parts.{part_both}
+use Rattle.byte_lists.specs.Bytes.{part}
+use Rattle.byte_lists.proofs.Parts.{part_both}
 use Rattle.cdb.specs.Records.{hash_of, hash_step}
 
 pub hashed_append : (h : ℕ) (xs ys : List ℕ) → fold hash_step h (xs ++ ys) ≡ fold hash_step (fold hash_step h xs) ys

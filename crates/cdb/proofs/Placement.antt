@@ -7,9 +7,9 @@ use Rattle.std.proofs.ByRecursion.{All-get_or, All-take, All-drop}
 use Rattle.cdb.specs.Records.{Item, hash_of}
 use Rattle.cdb.specs.Tables.{Slot}
 use Rattle.cdb.specs.Records.{Record, size, record_bytes, Records, items}
-use Rattle.bytes.specs.Bytes.{Bytes, word, part, word_at}
-use Rattle.bytes.proofs.Parts.{At, at_both, at_join, at_bytes}
-use Rattle.bytes.proofs.Words.{word_read, word_made}
+use Rattle.byte_lists.specs.Bytes.{Bytes, word, part, word_at}
+use Rattle.byte_lists.proofs.Parts.{At, at_both, at_join, at_bytes}
+use Rattle.byte_lists.proofs.Words.{word_read, word_made}
 use Rattle.cdb.specs.Files.{slot_bytes, table_bytes, slots_at}
 
 pub length_table_bytes : (s : List Slot) → length (table_bytes s) ≡ 8 * length s

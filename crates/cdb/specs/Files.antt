@@ -1,7 +1,7 @@
 -- The bytes of a file that is made from records and tables, and what is read from any bytes.
 use Rattle.std.specs.Prelude.{◌≡◌, ℕ, zero, suc, ◌+◌, ◌*◌, ◌<◌, List, [], ◌∷◌, ◌++◌, length, slice_index_or}
 use Rattle.std.specs.List.{flat_map}
-use Rattle.bytes.specs.Bytes.{word, word_at}
+use Rattle.byte_lists.specs.Bytes.{word, word_at}
 use Rattle.cdb.specs.Records.{Record, Item, record_bytes, belonging, table_of}
 use Rattle.cdb.specs.Tables.{Slot, Filling}
 

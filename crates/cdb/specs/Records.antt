@@ -1,6 +1,6 @@
 -- Records, their hashes and their places.
 use Rattle.std.specs.Prelude.{◌≡◌, ℕ, ◌+◌, ◌*◌, ◌%◌, ◌^◌, ◌≤◌, List, [], ◌∷◌, ◌++◌, length, fold, filter, bit_xor, nat_eq}
-use Rattle.bytes.specs.Bytes.{part, word, word_at}
+use Rattle.byte_lists.specs.Bytes.{part, word, word_at}
 
 -- a key and its data; both may be empty, and keys may repeat
 pub record Record : Type 0 where

@@ -1,7 +1,7 @@
 -- The eight rules of the audit, on the bytes of a file.
 use Rattle.std.specs.Prelude.{◌≡◌, ℕ, zero, suc, ◌+◌, ◌-◌, ◌*◌, ◌<◌, ◌≤◌, Bool, List, [], ◌∷◌, ◌++◌, length, count_by, nat_lt}
 use Rattle.std.specs.List.{ContainsAt as Has, AllByRecursion as All}
-use Rattle.bytes.specs.Bytes.{word_at}
+use Rattle.byte_lists.specs.Bytes.{word_at}
 use Rattle.cdb.specs.Records.{Record, Records, Item, items, belonging}
 use Rattle.cdb.specs.Tables.{Slot, slot, Empty, Distance}
 use Rattle.cdb.specs.Files.{position, slot_count, ends, slots_in, slots_of}

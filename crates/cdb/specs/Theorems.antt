@@ -1,6 +1,6 @@
 -- What is proved of the definitions.
 use Rattle.std.specs.Prelude.{◌≡◌, ℕ, ◌^◌, ◌<◌, ◌↔◌, List, length}
-use Rattle.bytes.specs.Bytes.{Bytes}
+use Rattle.byte_lists.specs.Bytes.{Bytes}
 use Rattle.cdb.specs.Records.{Record}
 use Rattle.cdb.specs.Files.{Made}
 use Rattle.cdb.specs.Rules.{Lawful}

@@ -1,3 +1,5 @@
 //! The cdb format: hash, records, tables, files, and the rules that a file is judged by.
+#![tactic(auto)]
+
 pub mod hashing;
 pub mod theorems;

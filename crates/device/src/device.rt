@@ -1,7 +1,7 @@
 //! What a device does to its meaning.
 
 ghost use Rattle.std.specs.Prelude.{◌≡◌, ℕ, ◌+◌, ◌-◌, ◌*◌, ◌/◌, ◌%◌, ◌^◌, ◌<◌, ◌≤◌, length};
-ghost use Rattle.bytes.specs.Bytes.{part};
+ghost use Rattle.byte_lists.specs.Bytes.{part};
 ghost use Rattle.device.specs.Meanings.{Meaning, Whole, refusal, state as state_of, answer, filled, Written};
 
 use faults::device::DeviceFault;

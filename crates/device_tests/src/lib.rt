@@ -1,4 +1,6 @@
 //! Tests of the devices, and a device that counts what is read from the one below.
+#![tactic(auto)]
+
 #[cfg(test)]
 mod asks;
 #[cfg(test)]

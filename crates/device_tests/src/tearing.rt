@@ -1,7 +1,7 @@
 //! A write at every number of writes left, with every setting.
 
 use crate::asks::*;
-use bytes::slices::equal;
+use byte_lists::slices::equal;
 use memory::writing::{Budget, RootTear, WriteMemory};
 use std::process::Abort;
 

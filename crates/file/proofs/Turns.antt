@@ -7,8 +7,8 @@ use Rattle.std.proofs.lemmas.Slice.{overwrites}
 use Rattle.std.proofs.lemmas.Bool.{cases_lt}
 use Rattle.faults.specs.declared.device.DeviceFault.{DeviceFault}
 use Rattle.device.specs.Meanings.{Meaning, refuses, refusal, within, answer, filled}
-use Rattle.bytes.specs.Bytes.{part}
-use Rattle.bytes.proofs.Parts.{get_d_part}
+use Rattle.byte_lists.specs.Bytes.{part}
+use Rattle.byte_lists.proofs.Parts.{get_d_part}
 use Rattle.file.specs.Ranges.{Reads, AllRead, FirstBad, Holds}
 
 answered_ok : (o : Option DeviceFault) (r : Result (Unit {0}) DeviceFault) (new xs old : List ℕ) → r ≡ answer o → is_ok r ≡ true → new ≡ filled o xs old → (o ≡ None) × (new ≡ xs)

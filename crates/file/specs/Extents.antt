@@ -1,6 +1,6 @@
 -- Extents of a device, and the files that they hold.
 use Rattle.std.specs.Prelude.{◌≡◌, ℕ, ◌+◌, ◌*◌, ◌<◌, ◌≤◌, true, false, List, length, Ok, Err, Result}
-use Rattle.bytes.specs.Bytes.{part, word_at}
+use Rattle.byte_lists.specs.Bytes.{part, word_at}
 use Rattle.faults.specs.declared.device.DeviceFault.{DeviceFault}
 use Rattle.faults.specs.declared.device.DeviceFault.TheVariants as device
 use Rattle.faults.specs.declared.file.FileFault.{FileFault}

@@ -1,6 +1,6 @@
 -- Bytes on a device, read in their order up to the first that cannot be read.
 use Rattle.std.specs.Prelude.{◌≡◌, ℕ, ◌+◌, ◌/◌, ◌<◌, ◌≤◌, List, length, Some, None, Ok, Err, Result, slice_index}
-use Rattle.bytes.specs.Bytes.{word_at}
+use Rattle.byte_lists.specs.Bytes.{word_at}
 use Rattle.faults.specs.declared.device.DeviceFault.{DeviceFault}
 use Rattle.device.specs.Meanings.{Meaning, refuses}
 use Rattle.file.specs.declared.words.Words.{Words}

@@ -1,4 +1,6 @@
 //! Files in extents of a device: reading them across its sectors.
+#![tactic(auto)]
+
 pub mod extents;
 pub mod making;
 pub mod plain;

@@ -1,7 +1,7 @@
 //! Inner: a file that is known to be readable, so that nothing here can be refused.
 
 ghost use Rattle.std.specs.Prelude.{◌≡◌, ℕ, ◌+◌, ◌-◌, ◌*◌, ◌/◌, ◌%◌, ◌^◌, ◌<◌, ◌≤◌, length, Decides, fold};
-ghost use Rattle.bytes.specs.Bytes.{part};
+ghost use Rattle.byte_lists.specs.Bytes.{part};
 ghost use Rattle.cdb.specs.Records.{hash_of, hash_step};
 ghost use Rattle.device.specs.Meanings.{Whole};
 ghost use Rattle.file.specs.Extents.{Ready, file, WordsAt};
@@ -9,7 +9,7 @@ ghost use Rattle.file.specs.Extents.{Ready, file, WordsAt};
 use crate::extents::Extent;
 use crate::reading::read_part;
 use crate::words::Words;
-use bytes::slices::{equal, word_at};
+use byte_lists::slices::{equal, word_at};
 use cdb::hashing::hash_on;
 use device::device::Device;
 

@@ -6,7 +6,7 @@ ghost use Rattle.file.specs.Ranges.{Fetched, WordsRead};
 
 use crate::extents::Extent;
 use crate::words::Words;
-use bytes::slices::word_at;
+use byte_lists::slices::word_at;
 use device::device::Device;
 use faults::device::DeviceFault;
 

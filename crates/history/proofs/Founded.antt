@@ -4,8 +4,8 @@ use Rattle.std.specs.List.{AllByRecursion as All}
 use Rattle.std.proofs.lemmas.List.{length-replicate, get_or-replicate, get_or_past}
 use Rattle.std.proofs.lemmas.List.Sorted.{IsPermutation-refl}
 use Rattle.std.proofs.lemmas.Bool.{cases_lt}
-use Rattle.bytes.specs.Bytes.{Bytes, part, laid}
-use Rattle.bytes.proofs.Parts.{At, at_both, part_bytes}
+use Rattle.byte_lists.specs.Bytes.{Bytes, part, laid}
+use Rattle.byte_lists.proofs.Parts.{At, at_both, part_bytes}
 use Rattle.device.specs.Meanings.{Meaning, Whole}
 use Rattle.cdb.specs.Records.{Record, Item, belonging}
 use Rattle.cdb.specs.Tables.{Slot, Filling, start}

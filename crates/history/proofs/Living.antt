@@ -1,7 +1,7 @@
 -- The live file stays while nothing outside the draft's area changes.
 use Rattle.std.proofs.Common.{◌≡◌, ℕ, ◌+◌, ◌-◌, ◌*◌, ◌/◌, ◌<◌, ◌≤◌, ◌⊎◌, List, length, get_or, sym, refl, ap, ◌∙◌, subst, inl, inr, ⊎_elim, arith}
-use Rattle.bytes.specs.Bytes.{part, laid}
-use Rattle.bytes.proofs.Laid.{past_laid, length_laid}
+use Rattle.byte_lists.specs.Bytes.{part, laid}
+use Rattle.byte_lists.proofs.Laid.{past_laid, length_laid}
 use Rattle.device.specs.Meanings.{Meaning}
 use Rattle.cdb.specs.Records.{Record}
 use Rattle.cdb.specs.Rules.{Lawful}

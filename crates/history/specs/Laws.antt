@@ -1,6 +1,6 @@
 -- The laws of histories.
 use Rattle.std.specs.Prelude.{◌≡◌, ℕ, ◌⊎◌, List, Err}
-use Rattle.bytes.specs.Bytes.{part}
+use Rattle.byte_lists.specs.Bytes.{part}
 use Rattle.device.specs.Meanings.{Meaning}
 use Rattle.cdb.specs.Records.{Record}
 use Rattle.cdb.specs.Rules.{Lawful}

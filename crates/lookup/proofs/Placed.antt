@@ -1,8 +1,8 @@
 -- What a probe answers, from what its reads answered.
 use Rattle.std.proofs.Common.{◌≡◌, ℕ, ◌+◌, ◌≤◌, List, Ok, Err, Result, sym, refl, ap, ◌∙◌, subst, arith}
 use Rattle.std.specs.Result.{result_map_both}
-use Rattle.bytes.specs.Bytes.{word_at}
-use Rattle.bytes.proofs.Words.{word_in}
+use Rattle.byte_lists.specs.Bytes.{word_at}
+use Rattle.byte_lists.proofs.Words.{word_in}
 use Rattle.faults.specs.declared.device.DeviceFault.{DeviceFault}
 use Rattle.faults.specs.declared.file.Located.{Located}
 use Rattle.faults.specs.Reports.{located}

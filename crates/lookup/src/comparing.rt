@@ -4,7 +4,7 @@ ghost use Rattle.std.specs.Prelude.{◌≡◌, ℕ, ◌+◌, ◌-◌, ◌*◌, �
 ghost use Rattle.file.specs.Extents.{On};
 ghost use Rattle.lookup.specs.Keys.{Compared};
 
-use bytes::slices::{equal, word_at};
+use byte_lists::slices::{equal, word_at};
 use device::device::Device;
 use faults::device::DeviceFault;
 use file::extents::Extent;

@@ -1,4 +1,6 @@
 //! Lookups in the file of an extent, on any device.
+#![tactic(auto)]
+
 pub mod advancing;
 pub mod calls;
 mod comparing;

@@ -3,7 +3,7 @@
 ghost use Rattle.std.specs.Prelude.{◌≡◌, ℕ, ◌+◌, ◌-◌, ◌*◌, ◌/◌, ◌%◌, ◌^◌, ◌<◌, ◌≤◌};
 ghost use Rattle.file.specs.Ranges.{WordsRead};
 
-use bytes::slices::word_at;
+use byte_lists::slices::word_at;
 use device::device::Device;
 use faults::device::DeviceFault;
 use file::reading::read_words;

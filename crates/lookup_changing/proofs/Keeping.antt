@@ -3,8 +3,8 @@ use Rattle.std.proofs.Common.{◌≡◌, ℕ, ◌+◌, ◌-◌, ◌*◌, ◌/◌
 use Rattle.std.proofs.lemmas.List.{length-set, get_or-set_other, get_or_default, same_lists}
 use Rattle.std.proofs.ByRecursion.{All-set}
 use Rattle.std.proofs.lemmas.Bool.{cases_lt, lt-ltb, cond-true, cond-false, le-ltb}
-use Rattle.bytes.specs.Bytes.{Bytes, part}
-use Rattle.bytes.proofs.Parts.{get_d_part, length_part, part_of_front}
+use Rattle.byte_lists.specs.Bytes.{Bytes, part}
+use Rattle.byte_lists.proofs.Parts.{get_d_part, length_part, part_of_front}
 use Rattle.device.specs.Meanings.{endless}
 use Rattle.memory.specs.Memories.{memory, fitting}
 use Rattle.file.specs.declared.extents.Extent.{Extent}

@@ -1,12 +1,12 @@
 //! Memory that changes between the calls: a byte outside the file is flipped.
 
 ghost use Rattle.std.specs.Prelude.{◌≡◌, ℕ, ◌+◌, ◌-◌, ◌*◌, ◌/◌, ◌%◌, ◌^◌, ◌<◌, ◌≤◌, true, length};
-ghost use Rattle.bytes.specs.Bytes.{Bytes, part};
+ghost use Rattle.byte_lists.specs.Bytes.{Bytes, part};
 ghost use Rattle.device.specs.Meanings.{endless};
 ghost use Rattle.memory.specs.Memories.{memory, fitting};
 ghost use Rattle.lookup_changing.specs.Flips.{beside, flipped};
 
-use bytes::slices::{copy_part, know_bytes};
+use byte_lists::slices::{copy_part, know_bytes};
 use device::checks::is_within;
 use device::device::Device;
 use faults::device::DeviceFault;

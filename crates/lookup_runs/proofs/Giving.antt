@@ -5,8 +5,8 @@ use Rattle.std.proofs.lemmas.Slice.Eq.{bytes_eq-Decides}
 use Rattle.std.proofs.lemmas.Bool.{cond-true, cond-false, cases_Bool}
 use Rattle.std.specs.List.{ContainsAt as Has, AllByRecursion as All}
 use Rattle.std.specs.Str.{bytes_eq}
-use Rattle.bytes.specs.Bytes.{part, laid}
-use Rattle.bytes.proofs.Parts.{part_in}
+use Rattle.byte_lists.specs.Bytes.{part, laid}
+use Rattle.byte_lists.proofs.Parts.{part_in}
 use Rattle.faults.specs.declared.file.FileFault.{FileFault}
 use Rattle.faults.specs.declared.file.FileFault.TheVariants.{Range, OtherKey}
 use Rattle.device.specs.Meanings.{Meaning}

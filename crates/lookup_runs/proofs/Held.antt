@@ -2,8 +2,8 @@
 use Rattle.std.proofs.Common.{◌≡◌, ℕ, zero, suc, ◌+◌, ◌-◌, ◌*◌, ◌/◌, ◌%◌, ◌<◌, ◌≤◌, min, Bool, true, false, ◌⊎◌, List, [], ◌∷◌, length, get_or, take, drop, Some, None, Ok, Err, Option, Result, sym, refl, ap, ◌∙◌, subst, inl, inr, ⊎_elim, arith, length-drop}
 use Rattle.std.proofs.lemmas.List.{length-take, same_lists, get_or_default}
 use Rattle.std.specs.List.{ContainsAt as Has}
-use Rattle.bytes.specs.Bytes.{part, word_at}
-use Rattle.bytes.proofs.Parts.{get_d_part, length_part}
+use Rattle.byte_lists.specs.Bytes.{part, word_at}
+use Rattle.byte_lists.proofs.Parts.{get_d_part, length_part}
 use Rattle.faults.specs.declared.device.DeviceFault.{DeviceFault}
 use Rattle.faults.specs.declared.file.FileFault.{FileFault}
 use Rattle.device.specs.Meanings.{Meaning, refuses}

@@ -3,7 +3,7 @@ use Rattle.std.proofs.Common.{◌≡◌, ℕ, zero, suc, ◌+◌, ◌-◌, ◌*�
 use Rattle.std.specs.List.{ContainsAt as Has}
 use Rattle.std.proofs.ByRecursion.{all-has}
 use Rattle.std.proofs.lemmas.Bool.{cases_lt, cases_eq}
-use Rattle.bytes.specs.Bytes.{word_at}
+use Rattle.byte_lists.specs.Bytes.{word_at}
 use Rattle.faults.specs.declared.file.FileFault.{FileFault}
 use Rattle.device.specs.Meanings.{Meaning}
 use Rattle.cdb.specs.Records.{Record, Item, hash_of, table_of, items, belonging}

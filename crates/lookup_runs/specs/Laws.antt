@@ -1,7 +1,7 @@
 -- The law of lookups: in a lawful file a run of lookup calls gives the data of exactly the records of its key, in file order.
 use Rattle.std.specs.Prelude.{◌≡◌, ℕ, zero, suc, ◌+◌, ◌<◌, ◌≤◌, true, ◌⊎◌, List, [], ◌∷◌, ◌++◌, length, is_ok, Some, None, Ok, Err, Option, Result, ◌≢◌}
 use Rattle.std.specs.List.{AllByRecursion as All}
-use Rattle.bytes.specs.Bytes.{part, laid}
+use Rattle.byte_lists.specs.Bytes.{part, laid}
 use Rattle.faults.specs.declared.file.FileFault.{FileFault}
 use Rattle.faults.specs.declared.file.FileFault.TheVariants.{Range, OtherKey}
 use Rattle.device.specs.Meanings.{Meaning}

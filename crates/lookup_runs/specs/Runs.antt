@@ -1,6 +1,6 @@
 -- Runs of lookup calls: what each call does to the cursor and the buffer, on devices that change between the calls.
 use Rattle.std.specs.Prelude.{◌≡◌, ℕ, zero, suc, ◌+◌, ◌<◌, ◌≤◌, List, [], ◌∷◌, ◌++◌, length, Some, None, Ok, Err, Option, Result, ◌≢◌}
-use Rattle.bytes.specs.Bytes.{part, laid}
+use Rattle.byte_lists.specs.Bytes.{part, laid}
 use Rattle.faults.specs.declared.file.FileFault.{FileFault}
 use Rattle.device.specs.Meanings.{Meaning}
 use Rattle.cdb.specs.Records.{hash_of}

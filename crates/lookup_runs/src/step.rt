@@ -4,7 +4,7 @@ ghost use Rattle.std.specs.Prelude.{◌≡◌, ℕ, ◌+◌, ◌-◌, ◌*◌, �
 ghost use Rattle.lookup_runs.specs.Runs.{found_by, NextMade, FetchMade, Stepped};
 
 use crate::calls::{Answer, Call, Wanted};
-use bytes::slices::equal;
+use byte_lists::slices::equal;
 use cdb::hashing::hash;
 use device::device::Device;
 use file::extents::Extent;

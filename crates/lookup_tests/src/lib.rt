@@ -1,4 +1,5 @@
 //! Lookups on worked files, on damaged ones and beside bad sectors.
+#![tactic(auto)]
 
 #[cfg(test)]
 mod tests {

@@ -1,7 +1,7 @@
 //! A device with marked sectors, over any other.
 
 ghost use Rattle.std.specs.Prelude.{◌≡◌, length};
-ghost use Rattle.bytes.specs.Bytes.{part};
+ghost use Rattle.byte_lists.specs.Bytes.{part};
 ghost use Rattle.device.specs.Meanings.{Whole, refusal, state as state_of, answer, filled, Written};
 ghost use Rattle.marks.specs.Layers.{meaning_over, sound_over, Keeps};
 

@@ -5,8 +5,8 @@ use Rattle.std.proofs.lemmas.Bool.{cond-true, cond_both, lt-ltb, and_parts, ltb-
 use Rattle.std.proofs.lemmas.List.{length-take-le, take-append-drop, take_all}
 use Rattle.std.proofs.ByRecursion.{All-take}
 use Rattle.faults.specs.declared.device.DeviceFault.{DeviceFault}
-use Rattle.bytes.specs.Bytes.{Bytes, laid}
-use Rattle.bytes.proofs.Laid.{length_laid, before_laid, past_laid, take_laid, laid_bytes}
+use Rattle.byte_lists.specs.Bytes.{Bytes, laid}
+use Rattle.byte_lists.proofs.Laid.{length_laid, before_laid, past_laid, take_laid, laid_bytes}
 use Rattle.device.specs.Meanings.{Meaning, Writes, Whole, good, within, is_bad, refusal, stored, Torn, Cut}
 use Rattle.memory.specs.Memories.{memory, fitting, tail}
 use Rattle.memory.specs.declared.writing.RootTear.{RootTear}

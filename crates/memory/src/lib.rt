@@ -1,4 +1,6 @@
 //! Memory as a device, for reading and for writing.
+#![tactic(auto)]
+
 pub mod reading;
 mod sectors;
 pub mod writing;

@@ -1,11 +1,11 @@
 //! Inner: the sectors of some bytes, for both kinds of memory. The callers prove the bounds.
 
 ghost use Rattle.std.specs.Prelude.{◌≡◌, ℕ, ◌*◌, true, length, take};
-ghost use Rattle.bytes.specs.Bytes.{part};
+ghost use Rattle.byte_lists.specs.Bytes.{part};
 ghost use Rattle.device.specs.Meanings.{endless, Whole, within};
 ghost use Rattle.memory.specs.Memories.{memory, fitting};
 
-use bytes::slices::{copy_part, know_bytes};
+use byte_lists::slices::{copy_part, know_bytes};
 
 /// As many sectors as fit.
 pub(crate) fn count_sectors(bytes: &[u8]) -> u32

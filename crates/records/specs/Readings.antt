@@ -1,6 +1,6 @@
 -- What the record reader answers.
 use Rattle.std.specs.Prelude.{◌≡◌, ℕ, ◌+◌, ◌<◌, ◌≤◌, ◌⊎◌, List, [], ◌∷◌, ◌++◌, map, length, take, drop, Some, None, Ok, Err, Option, Result}
-use Rattle.bytes.specs.Bytes.{word_at}
+use Rattle.byte_lists.specs.Bytes.{word_at}
 use Rattle.faults.specs.declared.file.FileFault.{FileFault}
 use Rattle.faults.specs.declared.file.FileFault.TheVariants as fault
 use Rattle.cdb.specs.Records.{Record, Records, size}

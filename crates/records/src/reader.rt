@@ -1,7 +1,7 @@
 //! The record reader's state.
 
 ghost use Rattle.std.specs.Prelude.{◌≡◌, ◌≤◌};
-ghost use Rattle.bytes.specs.Bytes.{word_at};
+ghost use Rattle.byte_lists.specs.Bytes.{word_at};
 
 /// A reader over the bytes of a file. It stands at the place of a record, or where the records end, which is where table 0 starts.
 #[derive(Clone, Copy)]

@@ -1,7 +1,7 @@
 //! The record reader's calls.
 
 ghost use Rattle.std.specs.Prelude.{◌≡◌, ◌≤◌, List, length};
-ghost use Rattle.bytes.specs.Bytes.{word_at};
+ghost use Rattle.byte_lists.specs.Bytes.{word_at};
 ghost use Rattle.cdb.specs.Files.{position};
 ghost use Rattle.records.specs.Readings.{Fills, Hands};
 ghost use Rattle.records.specs.Steps.{Ends, Found, Meets};
@@ -9,7 +9,7 @@ ghost use Rattle.records.specs.Laws.{FillsInOrder, HandsOutInOrder, HandsOutReco
 
 use crate::placed::PlacedRecord;
 use crate::reader::RecordReader;
-use bytes::slices::word_at;
+use byte_lists::slices::word_at;
 use faults::file::FileFault;
 
 impl<'a> RecordReader<'a> {

@@ -1,2 +1,4 @@
 //! Worked samples of the format.
+#![tactic(auto)]
+
 pub mod samples;

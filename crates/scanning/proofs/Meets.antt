@@ -7,7 +7,7 @@ use Rattle.std.proofs.lemmas.Bool.{cases_eq, eq-eqb, ne_eqb}
 use Rattle.cdb.specs.Records.{Item, hash_of}
 use Rattle.cdb.specs.Tables.{Distance}
 use Rattle.cdb.specs.Records.{Record, Records, size, items, belonging, table_of}
-use Rattle.bytes.specs.Bytes.{part, word_at}
+use Rattle.byte_lists.specs.Bytes.{part, word_at}
 use Rattle.cdb.specs.Files.{slots_of}
 use Rattle.cdb.specs.Rules.{Rule4}
 use Rattle.cdb.specs.Verdicts.{Probes}

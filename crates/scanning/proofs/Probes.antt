@@ -3,7 +3,7 @@ use Rattle.std.proofs.Common.{◌≡◌, ℕ, ◌+◌, ◌-◌, ◌/◌, ◌%◌
 use Rattle.std.proofs.lemmas.Bool.{cases_lt}
 use Rattle.cdb.specs.Records.{Item, hash_of}
 use Rattle.cdb.specs.Tables.{Slot, slot, spot, Distance}
-use Rattle.bytes.specs.Bytes.{word_at}
+use Rattle.byte_lists.specs.Bytes.{word_at}
 use Rattle.cdb.specs.Files.{slots_at}
 use Rattle.cdb.proofs.Placement.{length_slots_at}
 use Rattle.cdb.proofs.Slots.{seen, slot_at}

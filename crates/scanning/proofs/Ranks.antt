@@ -3,7 +3,7 @@ use Rattle.std.proofs.Common.{◌≡◌, ℕ, zero, suc, ◌+◌, ◌-◌, ◌*�
 use Rattle.std.proofs.lemmas.Bool.{cases_lt, cases_eq}
 use Rattle.cdb.specs.Records.{Item, hash_of}
 use Rattle.cdb.specs.Tables.{Slot, Distance}
-use Rattle.bytes.specs.Bytes.{word_at}
+use Rattle.byte_lists.specs.Bytes.{word_at}
 use Rattle.cdb.specs.Files.{position, slot_count}
 use Rattle.cdb.proofs.Placement.{length_slots_at}
 use Rattle.scanning.specs.Searches.{slot_place, HoldsBoth, Passed, Found}
@@ -11,7 +11,7 @@ use Rattle.scanning.specs.Searches.{item_at, Lowers, LaterAt, Searched, Outcome}
 use Rattle.cdb.specs.Files.{slots_of}
 use Rattle.cdb.proofs.Put.{distance_one}
 use Rattle.file.specs.declared.words.Words.{Words}
-use Rattle.bytes.proofs.Parts.{part_long}
+use Rattle.byte_lists.proofs.Parts.{part_long}
 use Rattle.scanning.specs.Searches.{Lowest, Lowered}
 use Rattle.file.specs.Extents.{WordsAt}
 use Rattle.scanning.proofs.Probes.{slot_placed, found_distance, missing_distance}

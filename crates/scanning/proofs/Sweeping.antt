@@ -4,7 +4,7 @@ use Rattle.std.specs.List.{ContainsAt as Has, AllByRecursion as All}
 use Rattle.std.proofs.ByRecursion.{All-push, All-weaker}
 use Rattle.cdb.specs.Records.{Item}
 use Rattle.cdb.specs.Records.{Record, Records, size, items}
-use Rattle.bytes.specs.Bytes.{part, word_at}
+use Rattle.byte_lists.specs.Bytes.{part, word_at}
 use Rattle.cdb.proofs.Pigeon.{has_nil, has_cons_cases}
 use Rattle.cdb.proofs.Members.{has_left, has_last}
 use Rattle.scanning.specs.Searches.{item_at}

@@ -2,10 +2,10 @@
 use Rattle.std.proofs.Common.{◌≡◌, ℕ, ◌+◌, ◌-◌, ◌<◌, ◌≤◌, List, [], ◌∷◌, ◌++◌, length, sym, refl, ap, ◌∙◌, subst, arith}
 use Rattle.std.proofs.lemmas.List.{length-append}
 use Rattle.cdb.specs.Records.{Record, Records, size}
-use Rattle.bytes.specs.Bytes.{part, word_at}
+use Rattle.byte_lists.specs.Bytes.{part, word_at}
 use Rattle.file.specs.Extents.{WordsAt}
 use Rattle.file.specs.declared.words.Words.{Words}
-use Rattle.bytes.proofs.Parts.{part_long}
+use Rattle.byte_lists.proofs.Parts.{part_long}
 use Rattle.scanning.specs.Sweeps.{CountTo}
 use Rattle.scanning.specs.Sweeps.{Ahead}
 

@@ -1,6 +1,6 @@
 -- A search for the slot of a record, by the words of the file.
 use Rattle.std.specs.Prelude.{◌≡◌, ℕ, ◌+◌, ◌*◌, ◌<◌, ◌≤◌, min, ◌⊎◌, List, length, Some, None, Option}
-use Rattle.bytes.specs.Bytes.{part, word_at}
+use Rattle.byte_lists.specs.Bytes.{part, word_at}
 use Rattle.cdb.specs.Records.{Item, table_of}
 use Rattle.cdb.specs.Tables.{slot_away, Distance}
 use Rattle.cdb.specs.Files.{slots_of}

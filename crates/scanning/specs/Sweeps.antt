@@ -1,7 +1,7 @@
 -- Walks from record to record.
 use Rattle.std.specs.Prelude.{◌≡◌, ℕ, ◌+◌, ◌<◌, ◌≤◌, ◌⊎◌, List, ◌∷◌, ◌++◌, length, slice_index}
 use Rattle.std.specs.List.{ContainsAt as Has, AllByRecursion as All}
-use Rattle.bytes.specs.Bytes.{word_at}
+use Rattle.byte_lists.specs.Bytes.{word_at}
 use Rattle.cdb.specs.Records.{Record, Records, Item, items, belonging, table_of}
 use Rattle.cdb.specs.Rules.{FirstOf, Rule4}
 use Rattle.cdb.specs.Verdicts.{Probes}

@@ -1,7 +1,7 @@
 //! Inner: rules 4 and 8, the search for the slot of a record.
 
 ghost use Rattle.std.specs.Prelude.{◌≡◌, ℕ, ◌+◌, ◌-◌, ◌*◌, ◌/◌, ◌%◌, ◌^◌, ◌<◌, ◌≤◌};
-ghost use Rattle.bytes.specs.Bytes.{word_at};
+ghost use Rattle.byte_lists.specs.Bytes.{word_at};
 ghost use Rattle.cdb.specs.Files.{ends};
 ghost use Rattle.file.specs.Extents.{Ready, file};
 ghost use Rattle.scanning.specs.Searches.{Lowers, Searched, Located};

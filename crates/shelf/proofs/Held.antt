@@ -2,8 +2,8 @@
 use Rattle.std.proofs.Common.{◌≡◌, ℕ, zero, suc, ◌+◌, ◌-◌, ◌*◌, ◌^◌, ◌<◌, ◌≤◌, ◌⊎◌, List, [], ◌∷◌, ◌++◌, map, length, take, set, Ok, Err, sym, refl, ap, ◌∙◌, subst, inl, inr, ⊎_elim, arith}
 use Rattle.std.specs.List.{flat_map}
 use Rattle.std.proofs.lemmas.List.{length-append, length_push, length-set, length-take-le, map-append}
-use Rattle.bytes.specs.Bytes.{part}
-use Rattle.bytes.proofs.Parts.{part_in}
+use Rattle.byte_lists.specs.Bytes.{part}
+use Rattle.byte_lists.proofs.Parts.{part_in}
 use Rattle.device.specs.Meanings.{Meaning, Whole}
 use Rattle.cdb.specs.Records.{Record, Item, record_bytes, size, items, hash_of}
 use Rattle.cdb.specs.Tables.{Slot, entry}

@@ -3,8 +3,8 @@ use Rattle.std.proofs.Common.{◌≡◌, ℕ, ◌+◌, ◌-◌, ◌*◌, ◌/◌
 use mathlib.Core.Bool.{false≢true}
 use Rattle.std.proofs.lemmas.List.{length-take-le, length-append, append_assoc, append-nil}
 use Rattle.std.specs.List.{flat_map}
-use Rattle.bytes.specs.Bytes.{part}
-use Rattle.bytes.proofs.Parts.{At, at_join, part_in}
+use Rattle.byte_lists.specs.Bytes.{part}
+use Rattle.byte_lists.proofs.Parts.{At, at_join, part_in}
 use Rattle.faults.specs.declared.device.DeviceFault.{DeviceFault}
 use Rattle.faults.specs.declared.device.DeviceFault.TheVariants.{Range, Power, Bad}
 use Rattle.faults.specs.declared.file.FileFault.{FileFault}

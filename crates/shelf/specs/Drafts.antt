@@ -1,6 +1,6 @@
 -- A draft from its begin on, and what a finish makes of it.
 use Rattle.std.specs.Prelude.{◌≡◌, ℕ, true, List, [], ◌∷◌, ◌++◌, Ok, Err}
-use Rattle.bytes.specs.Bytes.{part}
+use Rattle.byte_lists.specs.Bytes.{part}
 use Rattle.device.specs.Meanings.{Meaning, Whole}
 use Rattle.cdb.specs.Records.{Record}
 use Rattle.cdb.specs.Rules.{Lawful}

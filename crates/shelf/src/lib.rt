@@ -1,4 +1,6 @@
 //! A shelf of two areas on a device: one has the live file, the other takes the next one.
+#![tactic(auto)]
+
 pub mod adding;
 pub mod drafting;
 pub mod ending;

@@ -4,7 +4,7 @@ use lib.ListN.{length-replicate}
 use Rattle.std.specs.List.{AllByRecursion as All}
 use Rattle.std.proofs.ByRecursion.{All-append, All-from_get_or}
 use Rattle.std.proofs.lemmas.List.{get_or-replicate}
-use Rattle.bytes.specs.Bytes.{Bytes}
+use Rattle.byte_lists.specs.Bytes.{Bytes}
 use Rattle.cdb.specs.Records as cdb
 use Rattle.text.specs.Texts.{line, text, Proper, TextOf, Text, Begins}
 use Rattle.text.specs.Lexing.{Digit, Fitting, Grows, Dead}

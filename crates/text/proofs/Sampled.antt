@@ -1,7 +1,7 @@
 -- The samples, from the definitions.
 use Rattle.std.proofs.Common.{◌≡◌, ℕ, ◌+◌, ◌-◌, ◌*◌, ◌^◌, ◌<◌, ◌≤◌, List, [], ◌∷◌, ◌++◌, Some, None, Ok, Err, codes, decimal, Result, sym, refl, ap, ◌∙◌, subst, arith, rules}
 use Rattle.std.specs.Fmt.{digits}
-use Rattle.bytes.specs.Bytes.{Bytes}
+use Rattle.byte_lists.specs.Bytes.{Bytes}
 use Rattle.text.specs.declared.state.State.{State}
 use Rattle.text.specs.declared.state.State.TheVariants.{Start, KeyLength, DataLength, Key, Arrow, Data, Record, End}
 use Rattle.text.specs.declared.fault.TextFault.{TextFault}

@@ -2,8 +2,8 @@
 use Rattle.std.proofs.Common.{◌≡◌, ℕ, ◌+◌, ◌-◌, ◌*◌, ◌^◌, ◌<◌, ◌≤◌, ◌⊎◌, List, [], ◌∷◌, ◌++◌, length, get_or, take, drop, Some, None, decimal, sym, refl, ap, ◌∙◌, subst, inl, inr, ⊎_elim, append_assoc, append-nil, arith, length-append, length-drop}
 use Rattle.std.proofs.lemmas.List.{take_at, drop_more, drop-drop, drop_at, take-append-drop, drop_all, length-take-le, take_all}
 use Rattle.std.proofs.ByRecursion.{All-drop}
-use Rattle.bytes.specs.Bytes.{Bytes, part}
-use Rattle.bytes.proofs.Parts.{part_bytes}
+use Rattle.byte_lists.specs.Bytes.{Bytes, part}
+use Rattle.byte_lists.proofs.Parts.{part_bytes}
 use Rattle.text.specs.Texts.{line, Proper, Text, Begins, Refused}
 use Rattle.text.specs.Readings.{NoLine, Stops}
 use Rattle.text.specs.Scans.{spanned, Spans}

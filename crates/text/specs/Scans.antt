@@ -1,6 +1,6 @@
 -- Inner: what the scan of one token answers.
 use Rattle.std.specs.Prelude.{◌≡◌, ℕ, ◌+◌, ◌-◌, ◌≤◌, List, [], ◌∷◌, ◌++◌, length, drop, Some, None, Ok, Err, Option, Result}
-use Rattle.bytes.specs.Bytes.{part}
+use Rattle.byte_lists.specs.Bytes.{part}
 use Rattle.cdb.specs.Records.{Record}
 use Rattle.text.specs.declared.span.Span.{Span}
 use Rattle.text.specs.Texts.{line, Proper}

@@ -1,7 +1,7 @@
 -- The text of a record list, and where what is no text is refused.
 use Rattle.std.specs.Prelude.{◌≡◌, ℕ, ◌^◌, ◌<◌, ◌≤◌, List, [], ◌∷◌, ◌++◌, length, take, decimal}
 use Rattle.std.specs.List.{AllByRecursion as All}
-use Rattle.bytes.specs.Bytes.{Bytes}
+use Rattle.byte_lists.specs.Bytes.{Bytes}
 use Rattle.cdb.specs.Records.{Record}
 
 -- the line of a record: a plus sign, the length of the key, a comma, the length of the data, a colon, the key, an arrow, the data, a line feed

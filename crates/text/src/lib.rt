@@ -1,4 +1,6 @@
 //! The text of a record list, and its reader.
+#![tactic(auto)]
+
 pub mod fault;
 pub mod lent;
 pub mod lexer;

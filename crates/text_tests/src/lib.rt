@@ -1,4 +1,6 @@
 //! Tests of the text reader, the text writer, the line of a check and the record reader.
+#![tactic(auto)]
+
 #[cfg(test)]
 mod lists;
 #[cfg(test)]

@@ -1,8 +1,9 @@
 //! Reads the texts that two other makers were given, and the files that they made of them, looks every key up, and tells
 //! what was found.
+#![tactic(auto)]
 
 use anyhow::anyhow;
-use bytes::slices::equal;
+use byte_lists::slices::equal;
 use c_calls::in_memory::find_in_memory;
 use records::placed::PlacedRecord;
 use records::reader::RecordReader;

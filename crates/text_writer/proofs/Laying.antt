@@ -3,7 +3,7 @@ use Rattle.std.proofs.Common.{◌≡◌, ℕ, ◌+◌, ◌-◌, ◌*◌, ◌/◌
 use Rattle.std.proofs.lemmas.Fmt.{decimal_digit, decimal_step}
 use Rattle.std.proofs.lemmas.Slice.{overwrites}
 use Rattle.std.proofs.lemmas.List.{take_at, take-append-drop, drop_at, drop-drop, take_more, set_at, length-take-le, length_push, places, same_lists}
-use Rattle.bytes.specs.Bytes.{laid}
+use Rattle.byte_lists.specs.Bytes.{laid}
 use Rattle.cdb.specs.Records.{Record}
 use Rattle.text.specs.Texts.{line}
 use Rattle.text.proofs.Counting.{length_line}

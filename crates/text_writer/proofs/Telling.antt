@@ -1,6 +1,6 @@
 -- The lines that tell an outcome.
 use Rattle.std.proofs.Common.{◌≡◌, ℕ, ◌+◌, ◌<◌, ◌≤◌, ◌⊎◌, List, [], ◌∷◌, ◌++◌, length, Ok, Err, codes, decimal, Result, sym, refl, ap, ◌∙◌, subst, inl, inr, append_assoc, arith, length-append}
-use Rattle.bytes.specs.Bytes.{laid}
+use Rattle.byte_lists.specs.Bytes.{laid}
 use Rattle.faults.specs.declared.report.Report.{Report}
 use Rattle.text.specs.declared.fault.TextFault.{TextFault}
 use Rattle.text.specs.declared.fault.TextFault.TheVariants.{Malformed, Short, Long}

@@ -1,6 +1,6 @@
 -- The line that tells the outcome of a check.
 use Rattle.std.specs.Prelude.{◌≡◌, ℕ, ◌<◌, ◌≤◌, ◌⊎◌, List, [], ◌∷◌, ◌++◌, length, Ok, Err, codes, decimal, Result}
-use Rattle.bytes.specs.Bytes.{laid}
+use Rattle.byte_lists.specs.Bytes.{laid}
 use Rattle.faults.specs.declared.report.Report.{Report}
 use Rattle.cdb.specs.Records.{Record}
 use Rattle.text.specs.declared.fault.TextFault.{TextFault}

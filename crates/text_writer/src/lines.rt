@@ -1,7 +1,7 @@
 //! Inner: the lines of a text, laid into a lent buffer. The callers prove that they fit, and that the lengths are words.
 
 ghost use Rattle.std.specs.Prelude.{◌≡◌, ◌+◌, ◌^◌, ◌<◌, ◌≤◌, [], ◌∷◌, length};
-ghost use Rattle.bytes.specs.Bytes.{laid};
+ghost use Rattle.byte_lists.specs.Bytes.{laid};
 ghost use Rattle.text.specs.Texts.{line};
 ghost use Rattle.text.specs.Readings.{lent};
 

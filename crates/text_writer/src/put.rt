@@ -1,9 +1,9 @@
 //! Inner: pieces of text, laid into a lent buffer. The callers prove that they fit.
 
 ghost use Rattle.std.specs.Prelude.{◌≡◌, ◌+◌, ◌^◌, ◌<◌, ◌≤◌, [], ◌∷◌, ◌++◌, length, decimal};
-ghost use Rattle.bytes.specs.Bytes.{laid};
+ghost use Rattle.byte_lists.specs.Bytes.{laid};
 
-use bytes::slices::lay_over;
+use byte_lists::slices::lay_over;
 
 /// Lays bytes into the buffer; the place behind them.
 pub(crate) fn put(buffer: &mut [u8], at: usize, bytes: &[u8]) -> usize

@@ -2,13 +2,13 @@
 
 ghost use Rattle.std.specs.Prelude.{◌≡◌, ◌+◌, ◌≤◌, map, length, Decides};
 ghost use Rattle.std.specs.List.{flat_map, AllByRecursion as All};
-ghost use Rattle.bytes.specs.Bytes.{laid};
+ghost use Rattle.byte_lists.specs.Bytes.{laid};
 ghost use Rattle.text.specs.Texts.{Proper, line, text};
 ghost use Rattle.text.specs.Readings.{lent};
 ghost use Rattle.text_writer.specs.Writings.{GivesTheTextBack, ReadsBack, Writes};
 
 use crate::lines::{line_len, put_end, put_line};
-use bytes::slices::know_bytes;
+use byte_lists::slices::know_bytes;
 use text::fault::TextFault;
 use text::lent::LentRecord;
 

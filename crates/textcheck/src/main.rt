@@ -1,4 +1,5 @@
 //! Checks the text that comes in on standard input. One line tells the outcome: `ok,records,bytes`, or `no,10,256,place`.
+#![tactic(auto)]
 
 use std::io;
 use std::io::{Read, Write};

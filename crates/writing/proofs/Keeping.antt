@@ -1,7 +1,7 @@
 -- What stays through several runs, and the writes that they take.
 use Rattle.std.proofs.Common.{◌≡◌, ℕ, ◌+◌, ◌-◌, ◌*◌, ◌/◌, ◌<◌, ◌≤◌, ◌⊎◌, List, length, get_or, sym, refl, ap, ◌∙◌, subst, inl, inr, ⊎_elim, arith}
-use Rattle.bytes.specs.Bytes.{laid}
-use Rattle.bytes.proofs.Laid.{length_laid, before_laid, past_laid}
+use Rattle.byte_lists.specs.Bytes.{laid}
+use Rattle.byte_lists.proofs.Laid.{length_laid, before_laid, past_laid}
 use Rattle.device.specs.Meanings.{Meaning, Writes, endless, some}
 use Rattle.writing.specs.Runs.{Outside, Used, Counted, Keeps, Completed}
 

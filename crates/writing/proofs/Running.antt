@@ -3,7 +3,7 @@ use Rattle.std.proofs.Common.{◌≡◌, ℕ, ◌+◌, ◌-◌, ◌*◌, ◌/◌
 use mathlib.Core.Bool.{false≢true}
 use Rattle.std.proofs.lemmas.List.{places, same_lists, length-append, length-take-le, length-drop, append_assoc, take_at, drop_at, drop-drop, take_all}
 use Rattle.std.proofs.lemmas.Bool.{cases_lt, cases_eq, ltb-true, ltb-false}
-use Rattle.bytes.specs.Bytes.{laid}
+use Rattle.byte_lists.specs.Bytes.{laid}
 use Rattle.faults.specs.declared.device.DeviceFault.{DeviceFault}
 use Rattle.faults.specs.declared.device.DeviceFault.TheVariants.{Range, Power, Bad}
 use Rattle.device.specs.Meanings.{Meaning, Condition, Whole, Writes, endless, some, is_bad, spoils, refusal, refuses, spent, Cut, stored, Spends, WritesBy, Written}

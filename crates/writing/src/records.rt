@@ -7,7 +7,7 @@ ghost use Rattle.writing.specs.Runs.{Runs};
 ghost use Rattle.writing.specs.Records.{WritesRecord};
 
 use crate::pieces::write_all;
-use bytes::slices::two_words;
+use byte_lists::slices::two_words;
 use device::device::{Device, WritableDevice};
 use faults::device::DeviceFault;
 use faults::file::{FileFault, add_place};

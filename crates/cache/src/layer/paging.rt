@@ -1,7 +1,7 @@
 //! Inner: how a cache uses its pages.
 
 ghost use Rattle.std.specs.Prelude.{◌≡◌, ◌+◌, ◌*◌, ◌/◌, ◌%◌, ◌<◌, ◌≤◌, true, false, length, is_ok, Some, slice_set};
-ghost use Rattle.bytes.specs.Bytes.{part};
+ghost use Rattle.byte_lists.specs.Bytes.{part};
 ghost use Rattle.device.specs.Meanings.{answer, refuses};
 ghost use Rattle.cache.specs.Pages.{page_of, page_for, kept, after_read};
 ghost use Rattle.cache.specs.Caches.{pages_of, meaning_over, sound_over};

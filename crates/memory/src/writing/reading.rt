@@ -1,7 +1,7 @@
 //! Reading memory that is lent for writing. Its calls take it shared, so they change nothing of it.
 
 ghost use Rattle.std.specs.Prelude.{◌≡◌, length};
-ghost use Rattle.bytes.specs.Bytes.{part};
+ghost use Rattle.byte_lists.specs.Bytes.{part};
 ghost use Rattle.device.specs.Meanings.{Whole, refusal, state as state_of, answer, filled};
 ghost use Rattle.memory.specs.contracts.writing.WriteMemoryDevice.TheImpl.{ghosts as as-device};
 

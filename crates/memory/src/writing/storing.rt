@@ -7,7 +7,7 @@ ghost use Rattle.memory.specs.Writing.{writes, torn, outcome};
 ghost use Rattle.memory.specs.contracts.writing.WriteMemoryDevice.TheImpl.{ghosts as as-device};
 
 use super::{Budget, WriteMemory};
-use bytes::slices::{know_bytes, lay_over};
+use byte_lists::slices::{know_bytes, lay_over};
 use device::checks::is_within;
 use device::device::{Device, WritableDevice};
 use faults::device::DeviceFault;

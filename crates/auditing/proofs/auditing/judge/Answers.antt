@@ -5,7 +5,7 @@ use Rattle.faults.specs.declared.file.FileFault.{FileFault}
 use Rattle.faults.specs.declared.file.FileFault.TheVariants as fault
 use Rattle.faults.specs.Reports.{report}
 use Rattle.device.specs.Meanings.{Meaning}
-use Rattle.bytes.specs.Bytes.{word_at}
+use Rattle.byte_lists.specs.Bytes.{word_at}
 use Rattle.cdb.specs.Files.{position, ends}
 use Rattle.cdb.specs.Rules.{Each, Rule1, Rule2}
 use Rattle.cdb.specs.Verdicts.{refused, Judged, broken_1, broken_2, broken_3}

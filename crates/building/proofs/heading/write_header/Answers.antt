@@ -1,6 +1,6 @@
 use Rattle.std.proofs.Common.{◌≡◌, ℕ, ◌+◌, ◌*◌, ◌^◌, ◌<◌, ◌≤◌, List, ◌++◌, length, get_or, Ok, sym, refl, ap, ◌∙◌, subst, arith, rules}
 use Rattle.std.proofs.lemmas.Result.{err_from_is_err_and}
-use Rattle.bytes.specs.Bytes.{word}
+use Rattle.byte_lists.specs.Bytes.{word}
 use Rattle.device.specs.Meanings.{Meaning}
 use Rattle.writing.specs.Runs.{Completed}
 use Rattle.building.specs.Builds.{headed}

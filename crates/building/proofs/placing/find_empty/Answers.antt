@@ -1,5 +1,5 @@
 use Rattle.std.proofs.Common.{◌≡◌, ℕ, ◌+◌, ◌*◌, ◌<◌, sym, refl, ap, ◌∙◌, subst, arith, below_more}
-use Rattle.bytes.specs.Bytes.{word_at}
+use Rattle.byte_lists.specs.Bytes.{word_at}
 use Rattle.device.specs.Meanings.{Meaning}
 use Rattle.file.specs.Ranges.{AllRead}
 use Rattle.cdb.specs.Tables.{slot_away}

@@ -1,5 +1,5 @@
 use Rattle.std.proofs.Common.{◌≡◌, ◌-◌, ◌≤◌, length, fold}
-use Rattle.bytes.specs.Bytes.{part}
+use Rattle.byte_lists.specs.Bytes.{part}
 use Rattle.file.specs.Extents.{file}
 use Rattle.cdb.specs.Records.{hash_step}
 use Rattle.file.proofs.plain.hash_in.Given as goal

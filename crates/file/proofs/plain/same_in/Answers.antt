@@ -1,10 +1,10 @@
 use Rattle.std.proofs.Common.{◌≡◌, ℕ, ◌+◌, ◌-◌, ◌≤◌, true, false, length, take, Decides, sym, refl, ap, ◌∙◌, subst, arith, rules}
 use Rattle.std.proofs.lemmas.Bool.Decides.{not_from_Decides}
 use Rattle.std.proofs.lemmas.Bool.{false≢true}
-use Rattle.bytes.specs.Bytes.{part}
+use Rattle.byte_lists.specs.Bytes.{part}
 use Rattle.device.specs.Meanings.{Meaning}
 use Rattle.file.specs.Extents.{file}
-use Rattle.bytes.proofs.Parts.{same_more, same_less}
+use Rattle.byte_lists.proofs.Parts.{same_more, same_less}
 use Rattle.file.proofs.Readying.{buffer_long, front_long}
 use Rattle.file.proofs.plain.same_in.Goals as goal
 

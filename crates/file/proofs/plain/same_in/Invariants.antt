@@ -1,5 +1,5 @@
 use Rattle.std.proofs.Common.{◌≡◌, ◌-◌, ◌≤◌, length}
-use Rattle.bytes.specs.Bytes.{part}
+use Rattle.byte_lists.specs.Bytes.{part}
 use Rattle.file.specs.Extents.{file}
 use Rattle.file.proofs.plain.same_in.Given as goal
 

@@ -1,6 +1,6 @@
 use Rattle.std.proofs.Common.{◌≡◌, sym, refl, ap, ◌∙◌, arith, rules}
 use Rattle.file.specs.Extents.{file}
-use Rattle.bytes.proofs.Words.{word_in}
+use Rattle.byte_lists.proofs.Words.{word_in}
 use Rattle.file.proofs.plain.words_in.Goals as goal
 
 pub returns : goal.returns

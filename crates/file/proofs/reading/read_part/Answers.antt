@@ -1,7 +1,7 @@
 use Rattle.std.proofs.Common.{◌≡◌, ℕ, ◌+◌, ◌-◌, ◌*◌, ◌%◌, ◌<◌, ◌≤◌, List, length, take, drop, is_ok, sym, refl, ap, ◌∙◌, subst, arith, rules}
 use Rattle.std.proofs.lemmas.Result.{err_from_is_err_and}
 use Rattle.device.specs.Meanings.{Meaning, answer, refusal, filled}
-use Rattle.bytes.specs.Bytes.{part}
+use Rattle.byte_lists.specs.Bytes.{part}
 use Rattle.file.proofs.Turns.{turn_ok, turn_err}
 use Rattle.file.proofs.reading.read_part.Goals as goal
 

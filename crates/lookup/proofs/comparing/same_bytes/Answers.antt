@@ -1,6 +1,6 @@
 use Rattle.std.proofs.Common.{◌≡◌, ℕ, ◌+◌, ◌-◌, ◌≤◌, List, length, sym, ap, ◌∙◌, arith}
 use Rattle.std.proofs.lemmas.Bool.{eqb-true, eq-eqb}
-use Rattle.bytes.specs.Bytes.{word_at}
+use Rattle.byte_lists.specs.Bytes.{word_at}
 use Rattle.lookup.proofs.Pieces.{words_same, words_more, bytes_all}
 use Rattle.lookup.proofs.comparing.same_bytes.Goals as goal
 

@@ -1,6 +1,6 @@
 use Rattle.std.proofs.Common.{◌≡◌, ℕ, ◌+◌, true, length, is_ok, sym, ap, ◌∙◌, rules}
-use Rattle.bytes.specs.Bytes.{part}
-use Rattle.bytes.proofs.Parts.{part_in}
+use Rattle.byte_lists.specs.Bytes.{part}
+use Rattle.byte_lists.proofs.Parts.{part_in}
 use Rattle.device.specs.Meanings.{Meaning, within}
 use Rattle.file.specs.declared.extents.Extent.{Extent}
 use Rattle.file.proofs.Turns.{read_ok}

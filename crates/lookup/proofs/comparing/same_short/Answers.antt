@@ -1,7 +1,7 @@
 use Rattle.std.proofs.Common.{◌≡◌, ℕ, ◌+◌, ◌-◌, ◌%◌, ◌≤◌, true, List, length, take, drop, is_ok, sym, ap, ◌∙◌, arith, rules}
 use Rattle.std.proofs.lemmas.List.{take-take, length-take-le}
-use Rattle.bytes.specs.Bytes.{part}
-use Rattle.bytes.proofs.Parts.{part_in}
+use Rattle.byte_lists.specs.Bytes.{part}
+use Rattle.byte_lists.proofs.Parts.{part_in}
 use Rattle.device.specs.Meanings.{Meaning, within}
 use Rattle.file.specs.declared.extents.Extent.{Extent}
 use Rattle.file.specs.Extents.{file}

@@ -1,5 +1,5 @@
 use Rattle.std.proofs.Common.{◌≡◌, ℕ, ◌+◌, ◌<◌, ◌≤◌, ◌⊎◌, length, sym, refl, ap, ◌∙◌, subst, inl, inr, arith, rules}
-use Rattle.bytes.specs.Bytes.{word_at}
+use Rattle.byte_lists.specs.Bytes.{word_at}
 use Rattle.device.specs.Meanings.{Meaning}
 use Rattle.file.specs.Extents.{file, WordsAt}
 use Rattle.scanning.proofs.Ranks.{key_lengths}

@@ -1,5 +1,5 @@
 use Rattle.std.proofs.Common.{◌≡◌, ℕ, ◌+◌, ◌<◌, ◌≤◌, sym, subst, arith, rules}
-use Rattle.bytes.specs.Bytes.{word_at}
+use Rattle.byte_lists.specs.Bytes.{word_at}
 use Rattle.file.specs.Extents.{file}
 use Rattle.scanning.specs.Sweeps.{Ahead}
 use Rattle.scanning.proofs.Walks.{ahead_next}

@@ -1,6 +1,6 @@
 use Rattle.std.proofs.Common.{◌≡◌, ℕ, ◌+◌, ◌<◌, ◌≤◌, length, subst, arith, rules}
 use Rattle.std.proofs.ByRecursion.{All-from_get_or}
-use Rattle.bytes.specs.Bytes.{Bytes}
+use Rattle.byte_lists.specs.Bytes.{Bytes}
 use Rattle.text.specs.Lexing.{skip}
 use Rattle.text.proofs.Turns.{Seen, ended, stopped, turned, cut_off, spans, last}
 use Rattle.text.proofs.scan.scan.Goals as goal

@@ -1,5 +1,5 @@
 use Rattle.std.proofs.Common.{◌≡◌, ℕ, ◌+◌, List, [], ◌∷◌, length, decimal, sym, ap, ◌∙◌, arith}
-use Rattle.bytes.specs.Bytes.{laid}
+use Rattle.byte_lists.specs.Bytes.{laid}
 use Rattle.text_writer.proofs.Laying.{laid_laid}
 use Rattle.text_writer.proofs.put.put_number.Goals as goal
 

@@ -1,6 +1,6 @@
 use Rattle.std.proofs.Common.{◌≡◌, ◌+◌, map, length, take, drop}
 use Rattle.std.specs.List.{flat_map}
-use Rattle.bytes.specs.Bytes.{laid}
+use Rattle.byte_lists.specs.Bytes.{laid}
 use Rattle.text.specs.Texts.{line, text}
 use Rattle.text.specs.Readings.{lent}
 use Rattle.text_writer.proofs.writing.put_lines.Given as goal

@@ -1,7 +1,7 @@
 use Rattle.std.proofs.Common.{◌≡◌, ℕ, ◌+◌, ◌-◌, ◌*◌, ◌≤◌, List, ◌++◌, length, sym, refl, ap, ◌∙◌, subst, arith, rules}
 use Rattle.std.proofs.lemmas.List.{length-append}
 use Rattle.device.specs.Meanings.{Meaning}
-use Rattle.bytes.specs.Bytes.{word}
+use Rattle.byte_lists.specs.Bytes.{word}
 use Rattle.writing.specs.Runs.{Completed}
 use Rattle.writing.proofs.Running.{runs_both}
 use Rattle.writing.proofs.records.write_parts.Goals as goal

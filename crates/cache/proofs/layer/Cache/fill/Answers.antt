@@ -1,5 +1,5 @@
 use Rattle.std.proofs.Common.{◌≡◌, ℕ, ◌*◌, ◌%◌, ◌<◌, true, List, length, set, is_ok, Some, sym, ap, ◌∙◌, subst, arith, get_or-set_same, rules}
-use Rattle.bytes.specs.Bytes.{part}
+use Rattle.byte_lists.specs.Bytes.{part}
 use Rattle.device.specs.Meanings.{Meaning, answer}
 use Rattle.cache.specs.declared.pages.Page.{Page}
 use Rattle.cache.specs.Pages.{page_for, page_of, AllEqual}

@@ -1,5 +1,5 @@
 use Rattle.std.proofs.Common.{◌≡◌, ℕ, true, List, sym, refl, ap, ◌∙◌, subst, rules}
-use Rattle.bytes.specs.Bytes.{Bytes}
+use Rattle.byte_lists.specs.Bytes.{Bytes}
 use Rattle.device.specs.Meanings.{endless}
 use Rattle.memory.specs.Memories.{memory, fitting}
 use Rattle.lookup_runs.specs.Runs.{Keeps}

@@ -1,6 +1,6 @@
 use Rattle.std.proofs.Common.{true, refl, rules}
 use Rattle.device.specs.Meanings.{endless}
-use Rattle.bytes.proofs.Parts.{part_of_front}
+use Rattle.byte_lists.proofs.Parts.{part_of_front}
 use Rattle.memory.proofs.Whole.{memory_whole}
 use Rattle.lookup_changing.proofs.flipping.FlippingMemoryDevice.read.Goals as goal
 

@@ -1,5 +1,5 @@
 use Rattle.std.proofs.Common.{◌≡◌, ℕ, length, take, ◌∙◌, rules}
-use Rattle.bytes.specs.Bytes.{laid}
+use Rattle.byte_lists.specs.Bytes.{laid}
 use Rattle.memory.specs.Writing.{writes, torn_stored}
 use Rattle.memory.proofs.Stores.{TornOver, torn_over}
 use Rattle.memory.proofs.writing.WriteMemory.tear.Goals as goal

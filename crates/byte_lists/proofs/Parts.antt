@@ -2,7 +2,7 @@
 use Rattle.std.proofs.Common.{◌≡◌, ℕ, zero, suc, ◌+◌, ◌-◌, ◌<◌, ◌≤◌, min, List, [], ◌∷◌, ◌++◌, length, get_or, take, drop, sym, refl, ap, ◌∙◌, subst, add-zero, arith, take-add}
 use Rattle.std.proofs.lemmas.List.{length-append, length-take, length-drop, length-take-le, take_at, drop_at, drop-drop, drop-take, take-take, get_or-drop, get_or-take, take_all}
 use Rattle.std.proofs.ByRecursion.{All-take, All-drop}
-use Rattle.bytes.specs.Bytes.{Bytes, part}
+use Rattle.byte_lists.specs.Bytes.{Bytes, part}
 
 -- these bytes stand at a place
 abbrev pub At : List ℕ → ℕ → List ℕ → Type 0

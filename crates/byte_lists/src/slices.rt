@@ -1,7 +1,7 @@
 //! Inner: what the crates above do with slices of bytes. The callers prove the bounds.
 
 ghost use Rattle.std.specs.Prelude.{◌≡◌, ℕ, ◌+◌, ◌-◌, ◌*◌, ◌/◌, ◌%◌, ◌^◌, ◌<◌, ◌≤◌, ◌++◌, length, Decides};
-ghost use Rattle.bytes.specs.Bytes.{Bytes, part, laid, word, word_at};
+ghost use Rattle.byte_lists.specs.Bytes.{Bytes, part, laid, word, word_at};
 
 /// Makes it known to a proof that a slice holds bytes. The compiler leaves nothing of it.
 pub fn know_bytes(bytes: &[u8])

@@ -3,7 +3,7 @@ use Rattle.std.proofs.Common.{◌≡◌, ℕ, ◌+◌, ◌-◌, ◌<◌, ◌≤�
 use Rattle.std.proofs.lemmas.Slice.{overwrites}
 use Rattle.std.proofs.lemmas.List.{places, same_lists}
 use Rattle.std.proofs.ByRecursion.{All-append, All-take, All-drop}
-use Rattle.bytes.specs.Bytes.{Bytes, laid}
+use Rattle.byte_lists.specs.Bytes.{Bytes, laid}
 
 pub length_laid : (xs : List ℕ) (p : ℕ) (ys : List ℕ) → p + length ys ≤ length xs → length (laid xs p ys) ≡ length xs
 length_laid xs p ys h = search (rules, overwrites)

@@ -2,8 +2,8 @@
 use Rattle.std.proofs.Common.{◌≡◌, ℕ, zero, suc, ◌+◌, ◌-◌, ◌*◌, ◌/◌, ◌%◌, ◌^◌, ◌<◌, ◌≤◌, List, [], ◌∷◌, ◌++◌, length, get_or, take, drop, sym, refl, ap, ◌∙◌, subst, add-zero, arith}
 use Rattle.std.proofs.lemmas.List.{length-drop, get_or-drop, get_or-take}
 use Rattle.std.proofs.ByRecursion.{All-get_or}
-use Rattle.bytes.specs.Bytes.{Bytes, part, word, word_at}
-use Rattle.bytes.proofs.Parts.{At, at_get_d}
+use Rattle.byte_lists.specs.Bytes.{Bytes, part, word, word_at}
+use Rattle.byte_lists.proofs.Parts.{At, at_get_d}
 
 pub word_read : (f : List ℕ) (p n : ℕ) → n < 2 ^ 32 → At f p (word n) → word_at f p ≡ n
 word_read f p n l a =

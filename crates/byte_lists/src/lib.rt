@@ -1,2 +1,4 @@
 //! Bytes in slices: parts, pieces laid over, words.
+#![tactic(auto)]
+
 pub mod slices;
