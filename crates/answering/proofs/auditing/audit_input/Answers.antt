@@ -7,4 +7,4 @@ use Rattle.answering.proofs.auditing.audit_input.Goals as goal
 pub returns : goal.returns
 returns c =
     let xs : List _ = c.args.input.now in
-    inr (omega (arith, c.if-input-gt-LIMIT.false), subst (λ z. Judged z (answer_verdict c.audit-laid.result)) (ap (take (length xs)) c.lay-over.ensures ∙ front_laid _ xs) c.audit-laid.ensures)
+    inr (omega (arith, c.if-input-gt-LIMIT.false), subst (λ z. Judged z (answer_verdict c.audit_laid.result)) (ap (take (length xs)) c.lay_over.ensures ∙ front_laid _ xs) c.audit_laid.ensures)

@@ -20,32 +20,32 @@ judged : (m : Meaning) (e : Extent) (r : Result Counts FileFault) → Readable m
 judged m e (Ok c) h k = (h, k)
 judged m e (Err f) h k = inr (h, k)
 
-pub returns-in-err-check-readable : goal.returns-in-err-check-readable
-returns-in-err-check-readable g c =
+pub returns-in_err-check_readable : goal.returns-in_err-check_readable
+returns-in_err-check_readable g c =
     let m : Meaning = g.D.Device.meaning c.args.d.now in
     let e : Extent = c.args.e in
-    let r = err_from_is_err_and c.from-residual.result c.from-residual.ensures.1 in
-    let a : Audited m e c.from-residual.result = rw (r.1, r.2) (inl c.in-err-check-readable.ensures.answer) in
+    let r = err_from_is_err_and c.from_residual.result c.from_residual.ensures.1 in
+    let a : Audited m e c.from_residual.result = rw (r.1, r.2) (inl c.in_err-check_readable.ensures.answer) in
     record {
       verdict = a;
-      only = λ s h. only_answer m e c.from-residual.result s a h;
-      made = accepted_made m e c.check-readable.ensures.whole c.from-residual.result a;
+      only = λ s h. only_answer m e c.from_residual.result s a h;
+      made = accepted_made m e c.check_readable.ensures.whole c.from_residual.result a;
       reading = one_list m e;
-      same = c.check-readable.ensures.same;
-      sound = c.check-readable.ensures.sound;
+      same = c.check_readable.ensures.same;
+      sound = c.check_readable.ensures.sound;
     }
 
 pub returns : goal.returns
 returns g c =
     let m : Meaning = g.D.Device.meaning c.args.d.now in
     let e : Extent = c.args.e in
-    let s1 : g.D.Device.meaning c.check-readable.new.d ≡ m = c.check-readable.ensures.same in
+    let s1 : g.D.Device.meaning c.check_readable.new.d ≡ m = c.check_readable.ensures.same in
     let j : Judged (file m e) (verdict c.judge.result) = subst (λ (n : Meaning). Judged (file n e) (verdict c.judge.result)) s1 c.judge.ensures.judged in
-    let a : Audited m e c.judge.result = judged m e c.judge.result c.in-ok-check-readable.ensures.answer.readable j in
+    let a : Audited m e c.judge.result = judged m e c.judge.result c.in_ok-check_readable.ensures.answer.readable j in
     record {
       verdict = a;
       only = λ s h. only_answer m e c.judge.result s a h;
-      made = accepted_made m e c.check-readable.ensures.whole c.judge.result a;
+      made = accepted_made m e c.check_readable.ensures.whole c.judge.result a;
       reading = one_list m e;
       same = c.judge.ensures.same ∙ s1;
       sound = c.judge.ensures.sound;

@@ -30,17 +30,17 @@ pub returns-in-Some : goal.returns-in-Some
 returns-in-Some g c =
     let f : List ℕ = file (g.D.Device.meaning c.args.d.now) c.args.e in
     let long : length f ≡ c.args.e.len = c.requires.ready.long in
-    record { judged = broken_2 (omega (arith, c.if-e-lt-HEADER.false)) c.in-Some.ensures.answer; same = c.broken-entry.ensures.same; sound = c.broken-entry.ensures.sound }
+    record { judged = broken_2 (omega (arith, c.if-e-lt-HEADER.false)) c.in-Some.ensures.answer; same = c.broken_entry.ensures.same; sound = c.broken_entry.ensures.sound }
 
-pub count-records-requires : goal.count-records-requires
-count-records-requires g c =
+pub count_records-requires : goal.count_records-requires
+count_records-requires g c =
     let m : Meaning = g.D.Device.meaning c.args.d.now in
     let e : Extent = c.args.e in
     let f : List ℕ = file m e in
     let long : length f ≡ e.len = c.requires.ready.long in
-    let H : Each (Rule2 f) = c.in-default.ensures.answer in
-    let s1 : g.D.Device.meaning c.broken-entry.new.d ≡ m = c.broken-entry.ensures.same in
-    let here : c.words-in-end.result.first ≡ position f 0 = (subst (λ (n : Meaning). WordsAt (file n e) 0 c.words-in-end.result) s1 c.words-in-end.ensures.words).0 in
+    let H : Each (Rule2 f) = c.in_default.ensures.answer in
+    let s1 : g.D.Device.meaning c.broken_entry.new.d ≡ m = c.broken_entry.ensures.same in
+    let here : c.words_in-end.result.first ≡ position f 0 = (subst (λ (n : Meaning). WordsAt (file n e) 0 c.words_in-end.result) s1 c.words_in-end.ensures.words).0 in
     let h0 = (H 0 (omega arith)).first refl in
     record { sound = search rules; ready = search rules; within = (omega (arith, h0), omega (arith, h0)) }
 
@@ -49,32 +49,32 @@ returns-in-Err g c =
     let m : Meaning = g.D.Device.meaning c.args.d.now in
     let e : Extent = c.args.e in
     let f : List ℕ = file m e in
-    let end : ℕ = c.words-in-end.result.first in
+    let end : ℕ = c.words_in-end.result.first in
     let p : ℕ = c.in-Err.p in
     let long : length f ≡ e.len = c.requires.ready.long in
-    let H : Each (Rule2 f) = c.in-default.ensures.answer in
-    let s1 : g.D.Device.meaning c.broken-entry.new.d ≡ m = c.broken-entry.ensures.same in
-    let s2 : g.D.Device.meaning c.words-in-end.new.d ≡ m = c.words-in-end.ensures.same ∙ s1 in
-    let here : end ≡ position f 0 = (subst (λ (n : Meaning). WordsAt (file n e) 0 c.words-in-end.result) s1 c.words-in-end.ensures.words).0 in
+    let H : Each (Rule2 f) = c.in_default.ensures.answer in
+    let s1 : g.D.Device.meaning c.broken_entry.new.d ≡ m = c.broken_entry.ensures.same in
+    let s2 : g.D.Device.meaning c.words_in-end.new.d ≡ m = c.words_in-end.ensures.same ∙ s1 in
+    let here : end ≡ position f 0 = (subst (λ (n : Meaning). WordsAt (file n e) 0 c.words_in-end.result) s1 c.words_in-end.ensures.words).0 in
     let past : Past f end p = subst (λ (n : Meaning). Past (file n e) end p) s2 c.in-Err.ensures.answer in
     record {
       judged = broken_3 (omega (arith, c.if-e-lt-HEADER.false)) H (subst (λ (q : ℕ). Past f q p) here past);
-      same = c.count-records.ensures.same ∙ s2;
-      sound = c.count-records.ensures.sound;
+      same = c.count_records.ensures.same ∙ s2;
+      sound = c.count_records.ensures.sound;
     }
 
-pub place-records-requires : goal.place-records-requires
-place-records-requires g c =
+pub place_records-requires : goal.place_records-requires
+place_records-requires g c =
     let m : Meaning = g.D.Device.meaning c.args.d.now in
     let e : Extent = c.args.e in
     let f : List ℕ = file m e in
-    let end : ℕ = c.words-in-end.result.first in
+    let end : ℕ = c.words_in-end.result.first in
     let long : length f ≡ e.len = c.requires.ready.long in
-    let H : Each (Rule2 f) = c.in-default.ensures.answer in
-    let s1 : g.D.Device.meaning c.broken-entry.new.d ≡ m = c.broken-entry.ensures.same in
-    let s2 : g.D.Device.meaning c.words-in-end.new.d ≡ m = c.words-in-end.ensures.same ∙ s1 in
-    let s3 : g.D.Device.meaning c.count-records.new.d ≡ m = c.count-records.ensures.same ∙ s2 in
-    let here : end ≡ position f 0 = (subst (λ (n : Meaning). WordsAt (file n e) 0 c.words-in-end.result) s1 c.words-in-end.ensures.words).0 in
+    let H : Each (Rule2 f) = c.in_default.ensures.answer in
+    let s1 : g.D.Device.meaning c.broken_entry.new.d ≡ m = c.broken_entry.ensures.same in
+    let s2 : g.D.Device.meaning c.words_in-end.new.d ≡ m = c.words_in-end.ensures.same ∙ s1 in
+    let s3 : g.D.Device.meaning c.count_records.new.d ≡ m = c.count_records.ensures.same ∙ s2 in
+    let here : end ≡ position f 0 = (subst (λ (n : Meaning). WordsAt (file n e) 0 c.words_in-end.result) s1 c.words_in-end.ensures.words).0 in
     let h0 = (H 0 (omega arith)).first refl in
     let k : CountTo f end c.in-Ok.n = subst (λ (n : Meaning). CountTo (file n e) end c.in-Ok.n) s2 c.in-Ok.ensures.answer in
     let A : Meaning → Type 0 = λ n. Ahead (file n e) 2048 end in
@@ -88,75 +88,75 @@ place-records-requires g c =
       counts = (refl, λ t l. get_or-replicate 256 t 0 0 l);
     }
 
-pub returns-in-Err-place-records : goal.returns-in-Err-place-records
-returns-in-Err-place-records g c =
+pub returns-in-Err-place_records : goal.returns-in-Err-place_records
+returns-in-Err-place_records g c =
     let m : Meaning = g.D.Device.meaning c.args.d.now in
     let e : Extent = c.args.e in
     let f : List ℕ = file m e in
-    let end : ℕ = c.words-in-end.result.first in
+    let end : ℕ = c.words_in-end.result.first in
     let long : length f ≡ e.len = c.requires.ready.long in
     let one : Rule1 f = omega (arith, c.if-e-lt-HEADER.false) in
-    let H : Each (Rule2 f) = c.in-default.ensures.answer in
-    let s1 : g.D.Device.meaning c.broken-entry.new.d ≡ m = c.broken-entry.ensures.same in
-    let s3 : g.D.Device.meaning c.count-records.new.d ≡ m = c.count-records.ensures.same ∙ c.words-in-end.ensures.same ∙ s1 in
-    let here : end ≡ position f 0 = (subst (λ (n : Meaning). WordsAt (file n e) 0 c.words-in-end.result) s1 c.words-in-end.ensures.words).0 in
-    let spot = c.in-Err-place-records.spot in
+    let H : Each (Rule2 f) = c.in_default.ensures.answer in
+    let s1 : g.D.Device.meaning c.broken_entry.new.d ≡ m = c.broken_entry.ensures.same in
+    let s3 : g.D.Device.meaning c.count_records.new.d ≡ m = c.count_records.ensures.same ∙ c.words_in-end.ensures.same ∙ s1 in
+    let here : end ≡ position f 0 = (subst (λ (n : Meaning). WordsAt (file n e) 0 c.words_in-end.result) s1 c.words_in-end.ensures.words).0 in
+    let spot = c.in-Err-place_records.spot in
     record {
-      judged = lost_judged f one H end here spot (subst (λ (n : Meaning). Lost (file n e) end spot) s3 c.in-Err-place-records.ensures.answer);
-      same = c.place-records.ensures.same ∙ s3;
-      sound = c.place-records.ensures.sound;
+      judged = lost_judged f one H end here spot (subst (λ (n : Meaning). Lost (file n e) end spot) s3 c.in-Err-place_records.ensures.answer);
+      same = c.place_records.ensures.same ∙ s3;
+      sound = c.place_records.ensures.sound;
     }
 
-pub returns-in-err-check-tables : goal.returns-in-err-check-tables
-returns-in-err-check-tables g c =
+pub returns-in_err-check_tables : goal.returns-in_err-check_tables
+returns-in_err-check_tables g c =
     let m : Meaning = g.D.Device.meaning c.args.d.now in
     let e : Extent = c.args.e in
     let f : List ℕ = file m e in
-    let end : ℕ = c.words-in-end.result.first in
+    let end : ℕ = c.words_in-end.result.first in
     let long : length f ≡ e.len = c.requires.ready.long in
     let one : Rule1 f = omega (arith, c.if-e-lt-HEADER.false) in
-    let H : Each (Rule2 f) = c.in-default.ensures.answer in
-    let s1 : g.D.Device.meaning c.broken-entry.new.d ≡ m = c.broken-entry.ensures.same in
-    let s3 : g.D.Device.meaning c.count-records.new.d ≡ m = c.count-records.ensures.same ∙ c.words-in-end.ensures.same ∙ s1 in
-    let s4 : g.D.Device.meaning c.place-records.new.d ≡ m = c.place-records.ensures.same ∙ s3 in
-    let here : end ≡ position f 0 = (subst (λ (n : Meaning). WordsAt (file n e) 0 c.words-in-end.result) s1 c.words-in-end.ensures.words).0 in
-    let counts : List ℕ = c.place-records.new.counts in
-    let x = c.in-Ok-place-records.placing in
-    let placed : Placed f end x.probes counts x.low = subst (λ (n : Meaning). Placed (file n e) end x.probes counts x.low) s3 c.in-Ok-place-records.ensures.answer in
-    let r = err_from_is_err_and c.from-residual.result c.from-residual.ensures.1 in
-    let y : FileFault = c.in-err-check-tables.field-0.0 in
-    let ruled : Ruled f counts (Err y) = subst (λ (n : Meaning). Ruled (file n e) counts (Err y)) s4 c.in-err-check-tables.ensures.answer in
+    let H : Each (Rule2 f) = c.in_default.ensures.answer in
+    let s1 : g.D.Device.meaning c.broken_entry.new.d ≡ m = c.broken_entry.ensures.same in
+    let s3 : g.D.Device.meaning c.count_records.new.d ≡ m = c.count_records.ensures.same ∙ c.words_in-end.ensures.same ∙ s1 in
+    let s4 : g.D.Device.meaning c.place_records.new.d ≡ m = c.place_records.ensures.same ∙ s3 in
+    let here : end ≡ position f 0 = (subst (λ (n : Meaning). WordsAt (file n e) 0 c.words_in-end.result) s1 c.words_in-end.ensures.words).0 in
+    let counts : List ℕ = c.place_records.new.counts in
+    let x = c.in-Ok-place_records.placing in
+    let placed : Placed f end x.probes counts x.low = subst (λ (n : Meaning). Placed (file n e) end x.probes counts x.low) s3 c.in-Ok-place_records.ensures.answer in
+    let r = err_from_is_err_and c.from_residual.result c.from_residual.ensures.1 in
+    let y : FileFault = c.in_err-check_tables.field-0.0 in
+    let ruled : Ruled f counts (Err y) = subst (λ (n : Meaning). Ruled (file n e) counts (Err y)) s4 c.in_err-check_tables.ensures.answer in
     record {
       judged = rw (r.1, r.2) (tables_refuse f one H end here counts x.probes x.low placed y ruled);
-      same = c.check-tables.ensures.same ∙ s4;
-      sound = c.check-tables.ensures.sound;
+      same = c.check_tables.ensures.same ∙ s4;
+      sound = c.check_tables.ensures.sound;
     }
 
-pub returns-in-err-check-order : goal.returns-in-err-check-order
-returns-in-err-check-order g c =
+pub returns-in_err-check_order : goal.returns-in_err-check_order
+returns-in_err-check_order g c =
     let m : Meaning = g.D.Device.meaning c.args.d.now in
     let e : Extent = c.args.e in
     let f : List ℕ = file m e in
-    let end : ℕ = c.words-in-end.result.first in
+    let end : ℕ = c.words_in-end.result.first in
     let long : length f ≡ e.len = c.requires.ready.long in
     let one : Rule1 f = omega (arith, c.if-e-lt-HEADER.false) in
-    let H : Each (Rule2 f) = c.in-default.ensures.answer in
-    let s1 : g.D.Device.meaning c.broken-entry.new.d ≡ m = c.broken-entry.ensures.same in
-    let s3 : g.D.Device.meaning c.count-records.new.d ≡ m = c.count-records.ensures.same ∙ c.words-in-end.ensures.same ∙ s1 in
-    let s4 : g.D.Device.meaning c.place-records.new.d ≡ m = c.place-records.ensures.same ∙ s3 in
-    let s5 : g.D.Device.meaning c.check-tables.new.d ≡ m = c.check-tables.ensures.same ∙ s4 in
-    let here : end ≡ position f 0 = (subst (λ (n : Meaning). WordsAt (file n e) 0 c.words-in-end.result) s1 c.words-in-end.ensures.words).0 in
-    let counts : List ℕ = c.place-records.new.counts in
-    let x = c.in-Ok-place-records.placing in
-    let placed : Placed f end x.probes counts x.low = subst (λ (n : Meaning). Placed (file n e) end x.probes counts x.low) s3 c.in-Ok-place-records.ensures.answer in
-    let ruled : Ruled f counts (Ok tt) = subst (λ (n : Meaning). Ruled (file n e) counts (Ok tt)) s4 c.in-ok-check-tables.ensures.answer in
-    let r = err_from_is_err_and c.from-residual-in-err-check-order.result c.from-residual-in-err-check-order.ensures.1 in
-    let y : FileFault = c.in-err-check-order.field-0.0 in
-    let o : Ordered f end x.low (Err y) = subst (λ (n : Meaning). Ordered (file n e) end x.low (Err y)) s5 c.in-err-check-order.ensures.answer in
+    let H : Each (Rule2 f) = c.in_default.ensures.answer in
+    let s1 : g.D.Device.meaning c.broken_entry.new.d ≡ m = c.broken_entry.ensures.same in
+    let s3 : g.D.Device.meaning c.count_records.new.d ≡ m = c.count_records.ensures.same ∙ c.words_in-end.ensures.same ∙ s1 in
+    let s4 : g.D.Device.meaning c.place_records.new.d ≡ m = c.place_records.ensures.same ∙ s3 in
+    let s5 : g.D.Device.meaning c.check_tables.new.d ≡ m = c.check_tables.ensures.same ∙ s4 in
+    let here : end ≡ position f 0 = (subst (λ (n : Meaning). WordsAt (file n e) 0 c.words_in-end.result) s1 c.words_in-end.ensures.words).0 in
+    let counts : List ℕ = c.place_records.new.counts in
+    let x = c.in-Ok-place_records.placing in
+    let placed : Placed f end x.probes counts x.low = subst (λ (n : Meaning). Placed (file n e) end x.probes counts x.low) s3 c.in-Ok-place_records.ensures.answer in
+    let ruled : Ruled f counts (Ok tt) = subst (λ (n : Meaning). Ruled (file n e) counts (Ok tt)) s4 c.in_ok-check_tables.ensures.answer in
+    let r = err_from_is_err_and c.from_residual-in_err-check_order.result c.from_residual-in_err-check_order.ensures.1 in
+    let y : FileFault = c.in_err-check_order.field-0.0 in
+    let o : Ordered f end x.low (Err y) = subst (λ (n : Meaning). Ordered (file n e) end x.low (Err y)) s5 c.in_err-check_order.ensures.answer in
     record {
       judged = rw (r.1, r.2, o.1) (order_refuse f one H end here counts x.probes x.low placed ruled _ o.0 refl);
-      same = c.check-order.ensures.same ∙ s5;
-      sound = c.check-order.ensures.sound;
+      same = c.check_order.ensures.same ∙ s5;
+      sound = c.check_order.ensures.sound;
     }
 
 pub overflow-sub-result : goal.overflow-sub-result
@@ -165,9 +165,9 @@ overflow-sub-result g c =
     let e : Extent = c.args.e in
     let f : List ℕ = file m e in
     let long : length f ≡ e.len = c.requires.ready.long in
-    let H : Each (Rule2 f) = c.in-default.ensures.answer in
-    let s1 : g.D.Device.meaning c.broken-entry.new.d ≡ m = c.broken-entry.ensures.same in
-    let here : c.words-in-end.result.first ≡ position f 0 = (subst (λ (n : Meaning). WordsAt (file n e) 0 c.words-in-end.result) s1 c.words-in-end.ensures.words).0 in
+    let H : Each (Rule2 f) = c.in_default.ensures.answer in
+    let s1 : g.D.Device.meaning c.broken_entry.new.d ≡ m = c.broken_entry.ensures.same in
+    let here : c.words_in-end.result.first ≡ position f 0 = (subst (λ (n : Meaning). WordsAt (file n e) 0 c.words_in-end.result) s1 c.words_in-end.ensures.words).0 in
     let h0 = (H 0 (omega arith)).first refl in
     omega (arith, h0)
 
@@ -176,40 +176,40 @@ returns g c =
     let m : Meaning = g.D.Device.meaning c.args.d.now in
     let e : Extent = c.args.e in
     let f : List ℕ = file m e in
-    let end : ℕ = c.words-in-end.result.first in
+    let end : ℕ = c.words_in-end.result.first in
     let long : length f ≡ e.len = c.requires.ready.long in
     let one : Rule1 f = omega (arith, c.if-e-lt-HEADER.false) in
-    let H : Each (Rule2 f) = c.in-default.ensures.answer in
-    let s1 : g.D.Device.meaning c.broken-entry.new.d ≡ m = c.broken-entry.ensures.same in
-    let s2 : g.D.Device.meaning c.words-in-end.new.d ≡ m = c.words-in-end.ensures.same ∙ s1 in
-    let s3 : g.D.Device.meaning c.count-records.new.d ≡ m = c.count-records.ensures.same ∙ s2 in
-    let s4 : g.D.Device.meaning c.place-records.new.d ≡ m = c.place-records.ensures.same ∙ s3 in
-    let s5 : g.D.Device.meaning c.check-tables.new.d ≡ m = c.check-tables.ensures.same ∙ s4 in
-    let here : end ≡ position f 0 = (subst (λ (n : Meaning). WordsAt (file n e) 0 c.words-in-end.result) s1 c.words-in-end.ensures.words).0 in
-    let counts : List ℕ = c.place-records.new.counts in
-    let x = c.in-Ok-place-records.placing in
-    let placed : Placed f end x.probes counts x.low = subst (λ (n : Meaning). Placed (file n e) end x.probes counts x.low) s3 c.in-Ok-place-records.ensures.answer in
-    let ruled : Ruled f counts (Ok tt) = subst (λ (n : Meaning). Ruled (file n e) counts (Ok tt)) s4 c.in-ok-check-tables.ensures.answer in
-    let o : end ≤ x.low = subst (λ (n : Meaning). Ordered (file n e) end x.low (Ok tt)) s5 c.in-ok-check-order.ensures.answer in
+    let H : Each (Rule2 f) = c.in_default.ensures.answer in
+    let s1 : g.D.Device.meaning c.broken_entry.new.d ≡ m = c.broken_entry.ensures.same in
+    let s2 : g.D.Device.meaning c.words_in-end.new.d ≡ m = c.words_in-end.ensures.same ∙ s1 in
+    let s3 : g.D.Device.meaning c.count_records.new.d ≡ m = c.count_records.ensures.same ∙ s2 in
+    let s4 : g.D.Device.meaning c.place_records.new.d ≡ m = c.place_records.ensures.same ∙ s3 in
+    let s5 : g.D.Device.meaning c.check_tables.new.d ≡ m = c.check_tables.ensures.same ∙ s4 in
+    let here : end ≡ position f 0 = (subst (λ (n : Meaning). WordsAt (file n e) 0 c.words_in-end.result) s1 c.words_in-end.ensures.words).0 in
+    let counts : List ℕ = c.place_records.new.counts in
+    let x = c.in-Ok-place_records.placing in
+    let placed : Placed f end x.probes counts x.low = subst (λ (n : Meaning). Placed (file n e) end x.probes counts x.low) s3 c.in-Ok-place_records.ensures.answer in
+    let ruled : Ruled f counts (Ok tt) = subst (λ (n : Meaning). Ruled (file n e) counts (Ok tt)) s4 c.in_ok-check_tables.ensures.answer in
+    let o : end ≤ x.low = subst (λ (n : Meaning). Ordered (file n e) end x.low (Ok tt)) s5 c.in_ok-check_order.ensures.answer in
     let k : CountTo f end c.in-Ok.n = subst (λ (n : Meaning). CountTo (file n e) end c.in-Ok.n) s2 c.in-Ok.ensures.answer in
     record {
       judged = all_pass f one H end here counts x.probes x.low placed ruled c.in-Ok.n ((e.len - end) / 8) k (ap (λ (n : ℕ). (n - end) / 8) (sym long)) o;
-      same = c.check-order.ensures.same ∙ s5;
-      sound = c.check-order.ensures.sound;
+      same = c.check_order.ensures.same ∙ s5;
+      sound = c.check_order.ensures.sound;
     }
 
-pub check-order-requires : goal.check-order-requires
-check-order-requires g c =
+pub check_order-requires : goal.check_order-requires
+check_order-requires g c =
     let m : Meaning = g.D.Device.meaning c.args.d.now in
     let e : Extent = c.args.e in
     let f : List ℕ = file m e in
-    let end : ℕ = c.words-in-end.result.first in
-    let s1 : g.D.Device.meaning c.broken-entry.new.d ≡ m = c.broken-entry.ensures.same in
-    let s3 : g.D.Device.meaning c.count-records.new.d ≡ m = c.count-records.ensures.same ∙ c.words-in-end.ensures.same ∙ s1 in
-    let s5 : g.D.Device.meaning c.check-tables.new.d ≡ m = c.check-tables.ensures.same ∙ c.place-records.ensures.same ∙ s3 in
-    let counts : List ℕ = c.place-records.new.counts in
-    let x = c.in-Ok-place-records.placing in
-    let placed : Placed f end x.probes counts x.low = subst (λ (n : Meaning). Placed (file n e) end x.probes counts x.low) s3 c.in-Ok-place-records.ensures.answer in
+    let end : ℕ = c.words_in-end.result.first in
+    let s1 : g.D.Device.meaning c.broken_entry.new.d ≡ m = c.broken_entry.ensures.same in
+    let s3 : g.D.Device.meaning c.count_records.new.d ≡ m = c.count_records.ensures.same ∙ c.words_in-end.ensures.same ∙ s1 in
+    let s5 : g.D.Device.meaning c.check_tables.new.d ≡ m = c.check_tables.ensures.same ∙ c.place_records.ensures.same ∙ s3 in
+    let counts : List ℕ = c.place_records.new.counts in
+    let x = c.in-Ok-place_records.placing in
+    let placed : Placed f end x.probes counts x.low = subst (λ (n : Meaning). Placed (file n e) end x.probes counts x.low) s3 c.in-Ok-place_records.ensures.answer in
     let long : length f ≡ e.len = c.requires.ready.long in
     let W : Meaning → Type 0 = λ n. x.low < end → x.low + 8 + word_at (file n e) x.low ≤ e.len in
     record {

@@ -12,8 +12,8 @@ loop-i-preserved g c =
     let f = file m e in
     let i = c.loop-i.i in
     let p = c.args.pos + 8 * i in
-    let r = c.words-in-slot.result in
-    let pair : WordsAt f p r = subst (λ (n : Meaning). WordsAt (file n e) p r) c.loop-i.invariant.0 c.words-in-slot.ensures.words in
+    let r = c.words_in-slot.result in
+    let pair : WordsAt f p r = subst (λ (n : Meaning). WordsAt (file n e) p r) c.loop-i.invariant.0 c.words_in-slot.ensures.words in
     let l : i < c.args.len = search rules in
     elim c.if-slot-gt0.branch [
       | then-slot-gt0 w ↦ (search rules, search rules, omega (arith, w.n-is), w.n-is ∙ filled_more f c.args.pos c.args.len i c.loop-i.n r l pair c.loop-i.invariant.3 w.if-slot-gt0.true)

@@ -12,15 +12,15 @@ use Rattle.building.proofs.Counting.{sum_all}
 use Rattle.building.proofs.Tabling.{closed, header_refused}
 use Rattle.building.proofs.closing.close.Goals as goal
 
-pub write-header-requires : goal.write-header-requires
-write-header-requires g c =
+pub write_header-requires : goal.write_header-requires
+write_header-requires g c =
     let m : Meaning = g.D.Device.meaning c.args.d.now in
     let n : Meaning = g.D.Device.meaning c.build.new.d in
     let es : List Entry = c.args.entries.now in
     let P : Result (Unit {0}) DeviceFault → Type 0 = λ q. Builds m (c.args.base + c.args.end) es q n in
-    let b : Built m (c.args.base + c.args.end) es n = subst P (add_place_ok c.build.result c.add-place.result _ 256 c.args.end c.add-place.ensures c.in-ok-add-place.was) c.build.ensures.builds in
+    let b : Built m (c.args.base + c.args.end) es n = subst P (add_place_ok c.build.result c.add_place.result _ 256 c.args.end c.add_place.ensures c.in_ok-add_place.was) c.build.ensures.builds in
     let s : n.sectors ≡ m.sectors = b.keeps.sectors in
-    let k = sum_all c.counts-of-counts.result es c.counts-of-counts.ensures in
+    let k = sum_all c.counts_of-counts.result es c.counts_of-counts.ensures in
     record {
       sound = c.build.ensures.sound;
       whole = c.build.ensures.whole;
@@ -28,35 +28,35 @@ write-header-requires g c =
       fits = omega (arith, c.requires.within, c.requires.whole.few);
     }
 
-pub returns-in-err-add-place-2 : goal.returns-in-err-add-place-2
-returns-in-err-add-place-2 g c =
+pub returns-in_err-add_place-2 : goal.returns-in_err-add_place-2
+returns-in_err-add_place-2 g c =
     let m : Meaning = g.D.Device.meaning c.args.d.now in
     let k : Meaning = g.D.Device.meaning c.build.new.d in
-    let n : Meaning = g.D.Device.meaning c.write-header.new.d in
+    let n : Meaning = g.D.Device.meaning c.write_header.new.d in
     let es : List Entry = c.args.entries.now in
     let P : Result (Unit {0}) DeviceFault → Type 0 = λ q. Builds m (c.args.base + c.args.end) es q k in
-    let b : Built m (c.args.base + c.args.end) es k = subst P (add_place_ok c.build.result c.add-place.result _ 256 c.args.end c.add-place.ensures c.in-ok-add-place.was) c.build.ensures.builds in
-    let q = err_from_is_err_and c.from-residual-in-err-add-place-2.result c.from-residual-in-err-add-place-2.ensures.1 in
-    let e = add_place_err c.write-header.result c.add-place-2.result _ 256 0 c.add-place-2.ensures c.in-err-add-place-2.was in
-    let Q : Result (Unit {0}) DeviceFault → Type 0 = λ r. Runs k c.args.base (headed c.args.end c.counts-of-counts.result 256) r n in
+    let b : Built m (c.args.base + c.args.end) es k = subst P (add_place_ok c.build.result c.add_place.result _ 256 c.args.end c.add_place.ensures c.in_ok-add_place.was) c.build.ensures.builds in
+    let q = err_from_is_err_and c.from_residual-in_err-add_place-2.result c.from_residual-in_err-add_place-2.ensures.1 in
+    let e = add_place_err c.write_header.result c.add_place-2.result _ 256 0 c.add_place-2.ensures c.in_err-add_place-2.was in
+    let Q : Result (Unit {0}) DeviceFault → Type 0 = λ r. Runs k c.args.base (headed c.args.end c.counts_of-counts.result 256) r n in
     record {
-      closes = rw q.1 (e.0, inr (q.2 ∙ ap Device e.2, header_refused m k n c.args.base c.args.end c.counts-of-counts.result es c.requires.whole c.requires.within c.requires.past c.counts-of-counts.ensures e.0 b (subst Q e.1 c.write-header.ensures.runs)));
-      whole = c.write-header.ensures.whole;
-      sound = c.write-header.ensures.sound;
+      closes = rw q.1 (e.0, inr (q.2 ∙ ap Device e.2, header_refused m k n c.args.base c.args.end c.counts_of-counts.result es c.requires.whole c.requires.within c.requires.past c.counts_of-counts.ensures e.0 b (subst Q e.1 c.write_header.ensures.runs)));
+      whole = c.write_header.ensures.whole;
+      sound = c.write_header.ensures.sound;
     }
 
 pub returns : goal.returns
 returns g c =
     let m : Meaning = g.D.Device.meaning c.args.d.now in
     let k : Meaning = g.D.Device.meaning c.build.new.d in
-    let n : Meaning = g.D.Device.meaning c.write-header.new.d in
+    let n : Meaning = g.D.Device.meaning c.write_header.new.d in
     let es : List Entry = c.args.entries.now in
     let P : Result (Unit {0}) DeviceFault → Type 0 = λ q. Builds m (c.args.base + c.args.end) es q k in
-    let b : Built m (c.args.base + c.args.end) es k = subst P (add_place_ok c.build.result c.add-place.result _ 256 c.args.end c.add-place.ensures c.in-ok-add-place.was) c.build.ensures.builds in
-    let Q : Result (Unit {0}) DeviceFault → Type 0 = λ r. Runs k c.args.base (headed c.args.end c.counts-of-counts.result 256) r n in
-    let done = subst Q (add_place_ok c.write-header.result c.add-place-2.result _ 256 0 c.add-place-2.ensures c.in-ok-add-place-2.was) c.write-header.ensures.runs in
+    let b : Built m (c.args.base + c.args.end) es k = subst P (add_place_ok c.build.result c.add_place.result _ 256 c.args.end c.add_place.ensures c.in_ok-add_place.was) c.build.ensures.builds in
+    let Q : Result (Unit {0}) DeviceFault → Type 0 = λ r. Runs k c.args.base (headed c.args.end c.counts_of-counts.result 256) r n in
+    let done = subst Q (add_place_ok c.write_header.result c.add_place-2.result _ 256 0 c.add_place-2.ensures c.in_ok-add_place-2.was) c.write_header.ensures.runs in
     record {
-      closes = closed m k n c.args.base c.args.end c.counts-of-counts.result es c.requires.whole c.requires.within c.requires.past c.counts-of-counts.ensures b done;
-      whole = c.write-header.ensures.whole;
-      sound = c.write-header.ensures.sound;
+      closes = closed m k n c.args.base c.args.end c.counts_of-counts.result es c.requires.whole c.requires.within c.requires.past c.counts_of-counts.ensures b done;
+      whole = c.write_header.ensures.whole;
+      sound = c.write_header.ensures.sound;
     }

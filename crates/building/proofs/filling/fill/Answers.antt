@@ -16,8 +16,8 @@ overflow-mul-counts g c =
     let h : 2 * get_or c.args.counts.now t 0 < 2 ^ 32 = len_fits c.args.counts.now c.args.entries.now t (omega arith) c.requires.counts (omega (arith, c.requires.within, c.requires.whole.few)) in
     search rules
 
-pub put-entry-requires : goal.put-entry-requires
-put-entry-requires g c =
+pub put_entry-requires : goal.put_entry-requires
+put_entry-requires g c =
     let m : Meaning = g.D.Device.meaning c.args.d.now in
     let n : Meaning = g.D.Device.meaning c.loop-i.d in
     let es : List Entry = c.args.entries.now in
@@ -35,40 +35,40 @@ put-entry-requires g c =
           (filled_room m n n c.args.from es i l c.loop-i.invariant.1);
     }
 
-pub returns-in-err-put-entry : goal.returns-in-err-put-entry
-returns-in-err-put-entry g c =
-    let q = err_from_is_err_and c.from-residual.result c.from-residual.ensures.1 in
+pub returns-in_err-put_entry : goal.returns-in_err-put_entry
+returns-in_err-put_entry g c =
+    let q = err_from_is_err_and c.from_residual.result c.from_residual.ensures.1 in
     let m : Meaning = g.D.Device.meaning c.args.d.now in
     let n : Meaning = g.D.Device.meaning c.loop-i.d in
-    let o : Meaning = g.D.Device.meaning c.put-entry.new.d in
+    let o : Meaning = g.D.Device.meaning c.put_entry.new.d in
     let es : List Entry = c.args.entries.now in
     let i : ℕ = c.loop-i.i in
     let t : ℕ = (entry_at es i).hash % 256 in
     let l : i < length es = c.loop-i-test.true in
-    let h = c.in-err-put-entry.ensures.puts in
+    let h = c.in_err-put_entry.ensures.puts in
     record {
       fills = rw (q.1, q.2) (
         h.0,
         filled_lost m n o c.args.from es i l c.loop-i.invariant.1
             (to_start (λ p k. Lost n p (8 * k) o) c.args.counts.now c.args.starts.now c.args.from es t (omega arith) c.requires.counts c.requires.starts h.1),
       );
-      whole = c.put-entry.ensures.whole;
-      sound = c.put-entry.ensures.sound;
+      whole = c.put_entry.ensures.whole;
+      sound = c.put_entry.ensures.sound;
     }
 
 pub loop-i-preserved : goal.loop-i-preserved
 loop-i-preserved g c =
     let m : Meaning = g.D.Device.meaning c.args.d.now in
     let n : Meaning = g.D.Device.meaning c.loop-i.d in
-    let o : Meaning = g.D.Device.meaning c.put-entry.new.d in
+    let o : Meaning = g.D.Device.meaning c.put_entry.new.d in
     let es : List Entry = c.args.entries.now in
     let i : ℕ = c.loop-i.i in
     let t : ℕ = (entry_at es i).hash % 256 in
     let l : i < length es = c.loop-i-test.true in (
-      c.put-entry.ensures.sound,
+      c.put_entry.ensures.sound,
       filled_more m n o c.args.from es i l c.loop-i.invariant.1
-          (to_start (λ p k. PutInto n p k (slot_of (entry_at es i)) o) c.args.counts.now c.args.starts.now c.args.from es t (omega arith) c.requires.counts c.requires.starts c.in-ok-put-entry.ensures.puts),
-      c.put-entry.ensures.whole,
+          (to_start (λ p k. PutInto n p k (slot_of (entry_at es i)) o) c.args.counts.now c.args.starts.now c.args.from es t (omega arith) c.requires.counts c.requires.starts c.in_ok-put_entry.ensures.puts),
+      c.put_entry.ensures.whole,
     )
 
 pub returns : goal.returns

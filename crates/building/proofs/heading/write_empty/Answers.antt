@@ -9,28 +9,28 @@ use Rattle.building.specs.Builds.{headed}
 use Rattle.building.proofs.Emptied.{empty_header, empty_long}
 use Rattle.building.proofs.heading.write_empty.Goals as goal
 
-pub returns-in-err-add-place : goal.returns-in-err-add-place
-returns-in-err-add-place g c =
+pub returns-in_err-add_place : goal.returns-in_err-add_place
+returns-in_err-add_place g c =
     let m : Meaning = g.D.Device.meaning c.args.d.now in
-    let n : Meaning = g.D.Device.meaning c.write-header.new.d in
-    let q = err_from_is_err_and c.from-residual.result c.from-residual.ensures.1 in
-    let e = add_place_err c.write-header.result c.add-place.result _ 256 0 c.add-place.ensures c.in-err-add-place.was in
+    let n : Meaning = g.D.Device.meaning c.write_header.new.d in
+    let q = err_from_is_err_and c.from_residual.result c.from_residual.ensures.1 in
+    let e = add_place_err c.write_header.result c.add_place.result _ 256 0 c.add_place.ensures c.in_err-add_place.was in
     let P : Result (Unit {0}) DeviceFault → Type 0 = λ a. Runs m c.args.base (headed 2048 (replicate 256 0) 256) a n in
     let Q : ℕ → Type 0 = λ k. Interrupted m c.args.base k e.0 n in
     record {
-      writes = rw q.1 (e.0, q.2 ∙ ap Device e.2, subst Q (ap length empty_header ∙ empty_long) (subst P e.1 c.write-header.ensures.runs));
-      whole = c.write-header.ensures.whole;
-      sound = c.write-header.ensures.sound;
+      writes = rw q.1 (e.0, q.2 ∙ ap Device e.2, subst Q (ap length empty_header ∙ empty_long) (subst P e.1 c.write_header.ensures.runs));
+      whole = c.write_header.ensures.whole;
+      sound = c.write_header.ensures.sound;
     }
 
 pub returns : goal.returns
 returns g c =
     let m : Meaning = g.D.Device.meaning c.args.d.now in
-    let n : Meaning = g.D.Device.meaning c.write-header.new.d in
+    let n : Meaning = g.D.Device.meaning c.write_header.new.d in
     let P : Result (Unit {0}) DeviceFault → Type 0 = λ a. Runs m c.args.base (headed 2048 (replicate 256 0) 256) a n in
     let Q : List ℕ → Type 0 = λ q. Completed m c.args.base q n in
     record {
-      writes = subst Q empty_header (subst P (add_place_ok c.write-header.result c.add-place.result _ 256 0 c.add-place.ensures c.in-ok-add-place.was) c.write-header.ensures.runs);
-      whole = c.write-header.ensures.whole;
-      sound = c.write-header.ensures.sound;
+      writes = subst Q empty_header (subst P (add_place_ok c.write_header.result c.add_place.result _ 256 0 c.add_place.ensures c.in_ok-add_place.was) c.write_header.ensures.runs);
+      whole = c.write_header.ensures.whole;
+      sound = c.write_header.ensures.sound;
     }

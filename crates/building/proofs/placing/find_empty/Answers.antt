@@ -11,20 +11,20 @@ pub loop-p-preserved : goal.loop-p-preserved
 loop-p-preserved g c =
     let m : Meaning = g.D.Device.meaning c.args.d.now in
     let at : ℕ → ℕ = λ i. c.args.pos + 8 * slot_away c.args.len c.args.hash i + 4 in
-    let w : c.place-in.result ≡ word_at m.bytes (c.loop-p.p + 4) = c.place-in.ensures.word ∙ ap (λ (n : Meaning). word_at n.bytes (c.loop-p.p + 4)) c.loop-p.invariant.0 in
+    let w : c.place_in.result ≡ word_at m.bytes (c.loop-p.p + 4) = c.place_in.ensures.word ∙ ap (λ (n : Meaning). word_at n.bytes (c.loop-p.p + 4)) c.loop-p.invariant.0 in
     let v : word_at m.bytes (c.loop-p.p + 4) ≡ word_at m.bytes (at c.loop-p.j) = ap (λ (q : ℕ). word_at m.bytes (q + 4)) c.loop-p.invariant.4 in
     let here : 0 < word_at m.bytes (at c.loop-p.j) = omega (arith, w, v, c.loop-p-test.true) in
     let all : (i : ℕ) → i < c.loop-p.j + 1 → 0 < word_at m.bytes (at i) = below_more _ _ c.loop-p.invariant.5 here in (
-      c.place-in.ensures.same ∙ c.loop-p.invariant.0,
-      c.place-in.ensures.sound,
+      c.place_in.ensures.same ∙ c.loop-p.invariant.0,
+      c.place_in.ensures.sound,
       refl,
       further m.bytes c.args.pos c.args.len c.args.hash c.loop-p.j c.requires.room.0 c.requires.room.1 c.requires.room.2 all,
-      ap (λ (q : ℕ). c.args.pos + 8 * q) c.slot-away-in-loop-p.ensures.slot,
+      ap (λ (q : ℕ). c.args.pos + 8 * q) c.slot_away-in-loop-p.ensures.slot,
       all,
     )
 
-pub place-in-requires : goal.place-in-requires
-place-in-requires g c =
+pub place_in-requires : goal.place_in-requires
+place_in-requires g c =
     let m : Meaning = g.D.Device.meaning c.args.d.now in
     let n : Meaning = g.D.Device.meaning c.loop-p.d in
     let same : n ≡ m = c.loop-p.invariant.0 in

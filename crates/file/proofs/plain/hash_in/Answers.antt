@@ -16,13 +16,13 @@ loop-done-preserved g c =
     let h = c.loop-done.h in
     let fit : k ≤ 512 = omega arith in
     let z : length (take (k - 0) c.loop-done.bytes) ≡ k = length-take-le (k - 0) c.loop-done.bytes (omega arith) ∙ omega arith in
-    let e : c.hash-piece-h.result ≡ fold hash_step h (part f (c.args.p + n) k) =
-    c.hash-piece-h.ensures.hash
+    let e : c.hash_piece-h.result ≡ fold hash_step h (part f (c.args.p + n) k) =
+    c.hash_piece-h.ensures.hash
     ∙ ap (λ (x : Meaning). fold hash_step h (part (file x c.args.e) (c.args.p + n) (length (take (k - 0) c.loop-done.bytes)))) c.loop-done.invariant.0
     ∙ ap (λ (x : ℕ). fold hash_step h (part f (c.args.p + n) x)) z in
     let v = length-drop (k - 0) c.loop-done.bytes in
-    let w = length-append c.hash-piece-h.new.bytes (drop (k - 0) c.loop-done.bytes) in
-    let u : length c.hash-piece-h.new.bytes ≡ length (take (k - 0) c.loop-done.bytes) = c.hash-piece-h.auto.bytes in
+    let w = length-append c.hash_piece-h.new.bytes (drop (k - 0) c.loop-done.bytes) in
+    let u : length c.hash_piece-h.new.bytes ≡ length (take (k - 0) c.loop-done.bytes) = c.hash_piece-h.auto.bytes in
     let b : length c.loop-done.bytes ≡ 512 = c.loop-done.invariant.3 in
     (search rules, search rules, omega arith, w ∙ omega arith, hashed_part f c.args.p n k h _ c.loop-done.invariant.4 e)
 

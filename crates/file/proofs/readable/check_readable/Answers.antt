@@ -18,24 +18,24 @@ Powered m r = MatchResult r (λ _. m.power ≡ true) (λ f. (f ≡ Power) × (m.
 abbrev Checked : Meaning → ℕ → ℕ → Result (Unit {0}) DeviceFault → Type 0
 Checked m a b r = MatchResult r (λ _. SectorsRead m a b) (λ f. FirstSector m a b f)
 
-pub returns-then-not-is-on : goal.returns-then-not-is-on
-returns-then-not-is-on g c =
+pub returns-then-not-is_on : goal.returns-then-not-is_on
+returns-then-not-is_on g c =
     let no : On (g.D.Device.meaning c.args.d.now) c.args.extent → ⊥ = λ h. grind arith in
-    record { answer = outside no; whole = c.is-on.ensures.whole; same = refl; sound = c.requires }
+    record { answer = outside no; whole = c.is_on.ensures.whole; same = refl; sound = c.requires }
 
-pub returns-in-err-add-place : goal.returns-in-err-add-place
-returns-in-err-add-place g c =
+pub returns-in_err-add_place : goal.returns-in_err-add_place
+returns-in_err-add_place g c =
     let m : Meaning = g.D.Device.meaning c.args.d.now in
     let e : Extent = c.args.extent in
     let on : On m e = search rules in
-    let r = err_from_is_err_and c.from-residual.result c.from-residual.ensures.1 in
-    let b = add_place_err c.check-power.result c.add-place.result c.in-err-add-place.field-0.0 256 0 c.add-place.ensures c.in-err-add-place.was in
-    let p = subst (Powered m) b.1 c.check-power.ensures.answer in
+    let r = err_from_is_err_and c.from_residual.result c.from_residual.ensures.1 in
+    let b = add_place_err c.check_power.result c.add_place.result c.in_err-add_place.field-0.0 256 0 c.add_place.ensures c.in_err-add_place.was in
+    let p = subst (Powered m) b.1 c.check_power.ensures.answer in
     record {
       answer = rw (r.1, r.2, b.2) (subst (λ (f : DeviceFault). Unreadable m e (fault.Device (located f 256 0))) (sym p.0) (no_power on p.1));
-      whole = c.is-on.ensures.whole;
-      same = c.check-power.ensures.same;
-      sound = c.check-power.ensures.sound;
+      whole = c.is_on.ensures.whole;
+      same = c.check_power.ensures.same;
+      sound = c.check_power.ensures.sound;
     }
 
 pub returns-then-extent-eq0 : goal.returns-then-extent-eq0
@@ -43,31 +43,31 @@ returns-then-extent-eq0 g c =
     let m : Meaning = g.D.Device.meaning c.args.d.now in
     let e : Extent = c.args.extent in
     let on : On m e = search rules in
-    let b = add_place_ok c.check-power.result c.add-place.result _ 256 0 c.add-place.ensures c.in-ok-add-place.was in
-    let p = subst (Powered m) b c.check-power.ensures.answer in
+    let b = add_place_ok c.check_power.result c.add_place.result _ 256 0 c.add_place.ensures c.in_ok-add_place.was in
+    let p = subst (Powered m) b c.check_power.ensures.answer in
     record {
-      answer = ready_from m e c.is-on.ensures.whole (record { on = on; power = p; bytes = λ j l. absurd (omega arith) });
-      whole = c.is-on.ensures.whole;
-      same = c.check-power.ensures.same;
-      sound = c.check-power.ensures.sound;
+      answer = ready_from m e c.is_on.ensures.whole (record { on = on; power = p; bytes = λ j l. absurd (omega arith) });
+      whole = c.is_on.ensures.whole;
+      same = c.check_power.ensures.same;
+      sound = c.check_power.ensures.sound;
     }
 
-pub returns-in-err-add-place-2 : goal.returns-in-err-add-place-2
-returns-in-err-add-place-2 g c =
+pub returns-in_err-add_place-2 : goal.returns-in_err-add_place-2
+returns-in_err-add_place-2 g c =
     let m : Meaning = g.D.Device.meaning c.args.d.now in
     let e : Extent = c.args.extent in
     let on : On m e = search rules in
-    let o = add_place_ok c.check-power.result c.add-place.result _ 256 0 c.add-place.ensures c.in-ok-add-place.was in
-    let p = subst (Powered m) o c.check-power.ensures.answer in
-    let same : g.D.Device.meaning c.check-power.new.d ≡ m = c.check-power.ensures.same in
-    let r = err_from_is_err_and c.from-residual-in-err-add-place-2.result c.from-residual-in-err-add-place-2.ensures.1 in
-    let b = add_place_err c.check-sectors.result c.add-place-2.result c.in-err-add-place-2.field-0.0 256 0 c.add-place-2.ensures c.in-err-add-place-2.was in
-    let s = subst (Checked m (e.start / 512) ((e.start + e.len - 1) / 512 + 1)) b.1 (subst (λ (n : Meaning). Checked n (e.start / 512) ((e.start + e.len - 1) / 512 + 1) c.check-sectors.result) same c.check-sectors.ensures.answer) in
+    let o = add_place_ok c.check_power.result c.add_place.result _ 256 0 c.add_place.ensures c.in_ok-add_place.was in
+    let p = subst (Powered m) o c.check_power.ensures.answer in
+    let same : g.D.Device.meaning c.check_power.new.d ≡ m = c.check_power.ensures.same in
+    let r = err_from_is_err_and c.from_residual-in_err-add_place-2.result c.from_residual-in_err-add_place-2.ensures.1 in
+    let b = add_place_err c.check_sectors.result c.add_place-2.result c.in_err-add_place-2.field-0.0 256 0 c.add_place-2.ensures c.in_err-add_place-2.was in
+    let s = subst (Checked m (e.start / 512) ((e.start + e.len - 1) / 512 + 1)) b.1 (subst (λ (n : Meaning). Checked n (e.start / 512) ((e.start + e.len - 1) / 512 + 1) c.check_sectors.result) same c.check_sectors.ensures.answer) in
     record {
       answer = rw (r.1, r.2, b.2) (bad_sector on p (sectors_bad m e.start e.len b.0 (omega arith) s));
-      whole = c.is-on.ensures.whole;
-      same = c.check-sectors.ensures.same ∙ same;
-      sound = c.check-sectors.ensures.sound;
+      whole = c.is_on.ensures.whole;
+      same = c.check_sectors.ensures.same ∙ same;
+      sound = c.check_sectors.ensures.sound;
     }
 
 pub returns : goal.returns
@@ -75,14 +75,14 @@ returns g c =
     let m : Meaning = g.D.Device.meaning c.args.d.now in
     let e : Extent = c.args.extent in
     let on : On m e = search rules in
-    let o = add_place_ok c.check-power.result c.add-place.result _ 256 0 c.add-place.ensures c.in-ok-add-place.was in
-    let p = subst (Powered m) o c.check-power.ensures.answer in
-    let same : g.D.Device.meaning c.check-power.new.d ≡ m = c.check-power.ensures.same in
-    let b = add_place_ok c.check-sectors.result c.add-place-2.result _ 256 0 c.add-place-2.ensures c.in-ok-add-place-2.was in
-    let s = subst (Checked m (e.start / 512) ((e.start + e.len - 1) / 512 + 1)) b (subst (λ (n : Meaning). Checked n (e.start / 512) ((e.start + e.len - 1) / 512 + 1) c.check-sectors.result) same c.check-sectors.ensures.answer) in
+    let o = add_place_ok c.check_power.result c.add_place.result _ 256 0 c.add_place.ensures c.in_ok-add_place.was in
+    let p = subst (Powered m) o c.check_power.ensures.answer in
+    let same : g.D.Device.meaning c.check_power.new.d ≡ m = c.check_power.ensures.same in
+    let b = add_place_ok c.check_sectors.result c.add_place-2.result _ 256 0 c.add_place-2.ensures c.in_ok-add_place-2.was in
+    let s = subst (Checked m (e.start / 512) ((e.start + e.len - 1) / 512 + 1)) b (subst (λ (n : Meaning). Checked n (e.start / 512) ((e.start + e.len - 1) / 512 + 1) c.check_sectors.result) same c.check_sectors.ensures.answer) in
     record {
-      answer = ready_from m e c.is-on.ensures.whole (record { on = on; power = p; bytes = sectors_read m e.start e.len (omega arith) s });
-      whole = c.is-on.ensures.whole;
-      same = c.check-sectors.ensures.same ∙ same;
-      sound = c.check-sectors.ensures.sound;
+      answer = ready_from m e c.is_on.ensures.whole (record { on = on; power = p; bytes = sectors_read m e.start e.len (omega arith) s });
+      whole = c.is_on.ensures.whole;
+      same = c.check_sectors.ensures.same ∙ same;
+      sound = c.check_sectors.ensures.sound;
     }

@@ -5,8 +5,8 @@ use Rattle.byte_lists.specs.Bytes.{part}
 use Rattle.file.proofs.Turns.{turn_ok, turn_err}
 use Rattle.file.proofs.reading.read_part.Goals as goal
 
-pub returns-in-err-read : goal.returns-in-err-read
-returns-in-err-read g c =
+pub returns-in_err-read : goal.returns-in_err-read
+returns-in_err-read g c =
     let m : Meaning = g.D.Device.meaning c.args.d.now in
     let k : ℕ = c.loop-done.done in
     let count : ℕ = c.min-count.result in
@@ -18,9 +18,9 @@ returns-in-err-read g c =
     let sec : (p + k) % 512 + count ≤ 512 = omega arith in
     let dev : p + (k + count) ≤ 512 * m.sectors = omega arith in
     let l : k + count ≤ length c.args.buffer.now = omega arith in
-    let r = err_from_is_err_and c.from-residual.result c.from-residual.ensures.1 in
-    let t = turn_err m p k count c.args.buffer.now c.loop-done.buffer c.read.new.piece c.in-err-read.field-0.0 pos sec dev l inv.1 inv.2
-    (sym c.in-err-read.was ∙ c.read.ensures.answer ∙ ap (λ (n : Meaning). answer (refusal n (p + k) (length s))) same)
+    let r = err_from_is_err_and c.from_residual.result c.from_residual.ensures.1 in
+    let t = turn_err m p k count c.args.buffer.now c.loop-done.buffer c.read.new.piece c.in_err-read.field-0.0 pos sec dev l inv.1 inv.2
+    (sym c.in_err-read.was ∙ c.read.ensures.answer ∙ ap (λ (n : Meaning). answer (refusal n (p + k) (length s))) same)
     (c.read.ensures.piece ∙ ap (λ (n : Meaning). filled (refusal n (p + k) (length s)) (part n.bytes (p + k) (length s)) s) same) in
     record { filled = rw (r.1, r.2) t; same = c.read.ensures.same ∙ same; sound = c.read.ensures.sound }
 
@@ -39,6 +39,6 @@ loop-done-preserved g c =
     let l : k + count ≤ length c.args.buffer.now = omega arith in
     let t = turn_ok m p k count c.args.buffer.now c.loop-done.buffer c.read.new.piece c.read.result pos sec dev l c.read.auto.piece inv.1 inv.2
     (c.read.ensures.answer ∙ ap (λ (n : Meaning). answer (refusal n (p + k) (length s))) same)
-    (ap is_ok c.in-ok-read.was)
+    (ap is_ok c.in_ok-read.was)
     (c.read.ensures.piece ∙ ap (λ (n : Meaning). filled (refusal n (p + k) (length s)) (part n.bytes (p + k) (length s)) s) same) in
     (l, t.0, t.1, c.read.ensures.same ∙ same, c.read.ensures.sound)

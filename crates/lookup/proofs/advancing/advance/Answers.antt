@@ -11,8 +11,8 @@ use Rattle.lookup.specs.OneAnswer.{OnlyAdvances}
 use Rattle.lookup.proofs.One.{next_one}
 use Rattle.lookup.proofs.advancing.advance.Goals as goal
 
-pub returns-then-not-is-on : goal.returns-then-not-is-on
-returns-then-not-is-on g c =
+pub returns-then-not-is_on : goal.returns-then-not-is_on
+returns-then-not-is_on g c =
     let m : Meaning = g.D.Device.meaning c.args.d.now in
     let u : Cursor = c.args.cursor in
     let no : On m u.extent → ⊥ = λ h. grind arith in

@@ -16,11 +16,11 @@ returns-then-not-same g c =
     let piece : List ℕ = take ((k + count) - k) (drop k c.args.key.now) in
     let inv = c.loop-done.invariant in
     let l : k + count ≤ length c.args.key.now = omega arith in
-    let h : Compared m e (p + k) piece (Ok c.in-ok-same.same) = subst (λ (n : Meaning). Compared n e (p + k) piece (Ok c.in-ok-same.same)) inv.2 c.in-ok-same.ensures.compared in
+    let h : Compared m e (p + k) piece (Ok c.in_ok-same.same) = subst (λ (n : Meaning). Compared n e (p + k) piece (Ok c.in_ok-same.same)) inv.2 c.in_ok-same.ensures.compared in
     record {
       compared = differs_later m e p c.args.key.now k count l inv.1 (subst (λ (b : Bool). Compared m e (p + k) piece (Ok b)) c.if-not-same.true h);
-      same = c.same-in.ensures.same ∙ inv.2;
-      sound = c.same-in.ensures.sound;
+      same = c.same_in.ensures.same ∙ inv.2;
+      sound = c.same_in.ensures.sound;
     }
 
 pub loop-done-preserved : goal.loop-done-preserved
@@ -33,10 +33,10 @@ loop-done-preserved g c =
     let piece : List ℕ = take ((k + count) - k) (drop k c.args.key.now) in
     let inv = c.loop-done.invariant in
     let l : k + count ≤ length c.args.key.now = omega arith in
-    let h : Compared m e (p + k) piece (Ok c.in-ok-same.same) = subst (λ (n : Meaning). Compared n e (p + k) piece (Ok c.in-ok-same.same)) inv.2 c.in-ok-same.ensures.compared in (
+    let h : Compared m e (p + k) piece (Ok c.in_ok-same.same) = subst (λ (n : Meaning). Compared n e (p + k) piece (Ok c.in_ok-same.same)) inv.2 c.in_ok-same.ensures.compared in (
       l,
       agrees_more m e p c.args.key.now k count l inv.1 (subst (λ (b : Bool). Compared m e (p + k) piece (Ok b)) c.if-not-same.false h),
-      c.same-in.ensures.same ∙ inv.2,
-      c.same-in.ensures.sound,
-      buffer_long 512 count c.same-in.new.buffer c.loop-done.buffer inv.4 (omega arith) c.same-in.auto.buffer,
+      c.same_in.ensures.same ∙ inv.2,
+      c.same_in.ensures.sound,
+      buffer_long 512 count c.same_in.new.buffer c.loop-done.buffer inv.4 (omega arith) c.same_in.auto.buffer,
     )

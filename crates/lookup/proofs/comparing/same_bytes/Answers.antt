@@ -12,8 +12,8 @@ loop-i-preserved c =
     let a : List ℕ = c.args.a.now in
     let b : List ℕ = c.args.b.now in
     let i : ℕ = c.loop-i.i in
-    let w : word_at a i ≡ word_at b i = sym c.word-at.ensures ∙ c.if-word-at.false ∙ c.word-at-in-loop-i.ensures in
-    (c.loop-i-test.true, words_more a b i c.loop-i.invariant.1 (words_same a b i c.type-inv.a c.type-inv.b w))
+    let w : word_at a i ≡ word_at b i = sym c.word_at.ensures ∙ c.if-word_at.false ∙ c.word_at-in-loop-i.ensures in
+    (c.loop-i-test.true, words_more a b i c.loop-i.invariant.1 (words_same a b i c.type_inv.a c.type_inv.b w))
 
 pub returns : goal.returns
 returns c =
@@ -22,7 +22,7 @@ returns c =
     let n : ℕ = length a in
     let i : ℕ = c.loop-i.i in (
       (λ e.
-          let w : word_at a (n - 4) ≡ word_at b (n - 4) = sym c.word-at-2.ensures ∙ eqb-true c.word-at-2.result c.word-at-3.result e ∙ c.word-at-3.ensures in
-          bytes_all a b i c.requires c.if-n-lt4.false c.loop-i-test.false c.loop-i.invariant.1 (words_same a b (n - 4) c.type-inv.a c.type-inv.b w)),
-      (λ e. eq-eqb c.word-at-2.result c.word-at-3.result (c.word-at-2.ensures ∙ ap (λ (xs : List ℕ). word_at xs (n - 4)) e ∙ sym c.word-at-3.ensures)),
+          let w : word_at a (n - 4) ≡ word_at b (n - 4) = sym c.word_at-2.ensures ∙ eqb-true c.word_at-2.result c.word_at-3.result e ∙ c.word_at-3.ensures in
+          bytes_all a b i c.requires c.if-n-lt4.false c.loop-i-test.false c.loop-i.invariant.1 (words_same a b (n - 4) c.type_inv.a c.type_inv.b w)),
+      (λ e. eq-eqb c.word_at-2.result c.word_at-3.result (c.word_at-2.ensures ∙ ap (λ (xs : List ℕ). word_at xs (n - 4)) e ∙ sym c.word_at-3.ensures)),
     )

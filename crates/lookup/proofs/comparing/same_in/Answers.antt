@@ -15,11 +15,11 @@ returns g c =
     let n : ℕ = length c.args.buffer.now in
     let k : ℕ = length c.args.want.now in
     let i : within m.sectors (e.start + p) n ≡ true = search rules in
-    let r = read_ok m (e.start + p) n c.read.result c.args.buffer.now c.read.new.piece i c.read.ensures.answer (ap is_ok c.in-ok-read.was) c.read.ensures.piece in
+    let r = read_ok m (e.start + p) n c.read.result c.args.buffer.now c.read.new.piece i c.read.ensures.answer (ap is_ok c.in_ok-read.was) c.read.ensures.piece in
     record {
       compared = compared_here m e p c.args.want.now c.read.new.piece r.0 c.requires.one.1
           (r.1 ∙ ap (part m.bytes (e.start + p)) c.requires.long ∙ sym (part_in m.bytes e.start e.len p k c.requires.within))
-          (c.read.auto.piece ∙ c.requires.long) c.same-bytes.result c.same-bytes.ensures;
+          (c.read.auto.piece ∙ c.requires.long) c.same_bytes.result c.same_bytes.ensures;
       same = c.read.ensures.same;
       sound = c.read.ensures.sound;
     }

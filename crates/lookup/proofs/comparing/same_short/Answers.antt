@@ -17,7 +17,7 @@ returns g c =
     let n : ℕ = length c.args.key.now in
     let b : List ℕ = c.read.new.piece in
     let i : within m.sectors (e.start + p) 32 ≡ true = search rules in
-    let r = read_ok m (e.start + p) 32 c.read.result _ b i c.read.ensures.answer (ap is_ok c.in-ok-read.was) c.read.ensures.piece in
+    let r = read_ok m (e.start + p) 32 c.read.result _ b i c.read.ensures.answer (ap is_ok c.in_ok-read.was) c.read.ensures.piece in
     let l : n - 0 ≤ 32 = omega arith in
     let z : n - 0 ≡ n = omega arith in
     let front : take (n - 0) b ≡ part (file m e) p n =
@@ -26,7 +26,7 @@ returns g c =
     let sector : (e.start + p) % 512 + n ≤ 512 = omega arith in
     let long : length (take (n - 0) b) ≡ n = length-take-le (n - 0) b (omega (arith, c.read.auto.piece)) ∙ z in
     record {
-      compared = compared_here m e p c.args.key.now (take (n - 0) b) r.0 sector front long c.same-bytes.result c.same-bytes.ensures;
+      compared = compared_here m e p c.args.key.now (take (n - 0) b) r.0 sector front long c.same_bytes.result c.same_bytes.ensures;
       same = c.read.ensures.same;
       sound = c.read.ensures.sound;
     }

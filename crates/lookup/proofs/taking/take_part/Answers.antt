@@ -33,8 +33,8 @@ module _ (m : Meaning) (e : Extent) (from end : ℕ) (old new : List ℕ) (w : W
       ∙ ap (λ (ys : List ℕ). ys ++ drop b.k old) (sym (part_in m.bytes e.start e.len from b.k (omega (arith, i.in_file)))) in
       subst (λ (ys : List ℕ). Takes m e from end old (Err (Device (located f 256 from))) ys) (sym z) (stopped i b)
 
-pub returns-then-not-is-on : goal.returns-then-not-is-on
-returns-then-not-is-on g c =
+pub returns-then-not-is_on : goal.returns-then-not-is_on
+returns-then-not-is_on g c =
     let m : Meaning = g.D.Device.meaning c.args.d.now in
     let no : On m c.args.extent → ⊥ = λ h. grind arith in
     let a : Takes m c.args.extent c.args.from c.args.end c.args.buffer.now (Err Range) c.args.buffer.now = outside (λ h. no h.on_device) in
@@ -52,19 +52,19 @@ returns-then-past-end g c =
     let a : Takes m c.args.extent c.args.from c.args.end c.args.buffer.now (Err Range) c.args.buffer.now = outside no in
     record { answer = a; only = takes_one m c.args.extent c.args.from c.args.end c.args.buffer.now _ _ a; same = refl; sound = c.requires.sound }
 
-pub returns-in-err-add-place : goal.returns-in-err-add-place
-returns-in-err-add-place g c =
+pub returns-in_err-add_place : goal.returns-in_err-add_place
+returns-in_err-add_place g c =
     let m : Meaning = g.D.Device.meaning c.args.d.now in
     let e : Extent = c.args.extent in
     let from : ℕ = c.args.from in
     let on : On m e = search rules in
     let i : Inside m e from c.args.end (length c.args.buffer.now) = record { on_device = on; in_file = omega arith; in_data = omega arith } in
-    let r = err_from_is_err_and c.from-residual.result c.from-residual.ensures.1 in
-    let b = add_place_err c.read-part.result c.add-place.result c.in-err-add-place.field-0.0 256 from c.add-place.ensures c.in-err-add-place.was in
-    let h = subst (λ (x : Result (Unit {0}) DeviceFault). Fetched m (e.start + from) c.args.buffer.now x c.read-part.new.buffer) b.1 c.read-part.ensures.filled in
-    let a : Takes m e from c.args.end c.args.buffer.now c.from-residual.result c.read-part.new.buffer =
-    rw (r.1, r.2, b.2) (halted m e from c.args.end c.args.buffer.now c.read-part.new.buffer c.is-on.ensures.whole i b.0 h) in
-    record { answer = a; only = takes_one m e from c.args.end c.args.buffer.now _ _ a; same = c.read-part.ensures.same; sound = c.read-part.ensures.sound }
+    let r = err_from_is_err_and c.from_residual.result c.from_residual.ensures.1 in
+    let b = add_place_err c.read_part.result c.add_place.result c.in_err-add_place.field-0.0 256 from c.add_place.ensures c.in_err-add_place.was in
+    let h = subst (λ (x : Result (Unit {0}) DeviceFault). Fetched m (e.start + from) c.args.buffer.now x c.read_part.new.buffer) b.1 c.read_part.ensures.filled in
+    let a : Takes m e from c.args.end c.args.buffer.now c.from_residual.result c.read_part.new.buffer =
+    rw (r.1, r.2, b.2) (halted m e from c.args.end c.args.buffer.now c.read_part.new.buffer c.is_on.ensures.whole i b.0 h) in
+    record { answer = a; only = takes_one m e from c.args.end c.args.buffer.now _ _ a; same = c.read_part.ensures.same; sound = c.read_part.ensures.sound }
 
 pub returns : goal.returns
 returns g c =
@@ -73,7 +73,7 @@ returns g c =
     let from : ℕ = c.args.from in
     let on : On m e = search rules in
     let i : Inside m e from c.args.end (length c.args.buffer.now) = record { on_device = on; in_file = omega arith; in_data = omega arith } in
-    let b = add_place_ok c.read-part.result c.add-place.result tt 256 from c.add-place.ensures c.in-ok-add-place.was in
-    let h = subst (λ (x : Result (Unit {0}) DeviceFault). Fetched m (e.start + from) c.args.buffer.now x c.read-part.new.buffer) b c.read-part.ensures.filled in
-    let a = took m e from c.args.end c.args.buffer.now c.read-part.new.buffer c.is-on.ensures.whole i h in
-    record { answer = a; only = takes_one m e from c.args.end c.args.buffer.now _ _ a; same = c.read-part.ensures.same; sound = c.read-part.ensures.sound }
+    let b = add_place_ok c.read_part.result c.add_place.result tt 256 from c.add_place.ensures c.in_ok-add_place.was in
+    let h = subst (λ (x : Result (Unit {0}) DeviceFault). Fetched m (e.start + from) c.args.buffer.now x c.read_part.new.buffer) b c.read_part.ensures.filled in
+    let a = took m e from c.args.end c.args.buffer.now c.read_part.new.buffer c.is_on.ensures.whole i h in
+    record { answer = a; only = takes_one m e from c.args.end c.args.buffer.now _ _ a; same = c.read_part.ensures.same; sound = c.read_part.ensures.sound }

@@ -18,10 +18,10 @@ returns-then-cursor g c = record { walk = ended c.if-cursor.true; same = refl; s
 
 pub loop-at-init : goal.loop-at-init
 loop-at-init g c =
-    (omega arith, record { from = omega arith; others = λ j a b. absurd (omega arith) }, refl, c.requires.sound, c.first-index-index.ensures)
+    (omega arith, record { from = omega arith; others = λ j a b. absurd (omega arith) }, refl, c.requires.sound, c.first_index-index.ensures)
 
-pub probe-slot-requires : goal.probe-slot-requires
-probe-slot-requires g c =
+pub probe_slot-requires : goal.probe_slot-requires
+probe_slot-requires g c =
     let inv = c.loop-at.invariant in
     record {
       sound = inv.3;
@@ -36,20 +36,20 @@ probed m n u same i j z key r s e h =
     subst (λ (x : Result Probe FileFault). ProbeAt m u key j x) e
     (subst (λ (k : ℕ). SlotProbe m u key k r) z (subst (λ (x : Meaning). SlotProbe x u key i r) same h))
 
-pub returns-in-err-probe : goal.returns-in-err-probe
-returns-in-err-probe g c =
+pub returns-in_err-probe : goal.returns-in_err-probe
+returns-in_err-probe g c =
     let m : Meaning = g.D.Device.meaning c.args.d.now in
     let inv = c.loop-at.invariant in
-    let r = err_from_is_err_and c.from-residual.result c.from-residual.ensures.1 in
-    let k = probed m _ c.args.cursor inv.2 c.loop-at.index c.loop-at.at inv.4 c.args.key.now c.probe-slot.result _ c.in-err-probe.was c.probe-slot.ensures.probe in
-    record { walk = rw (r.1, r.2) (refused c.loop-at-test.true inv.1 k); same = c.probe-slot.ensures.same ∙ inv.2; sound = c.probe-slot.ensures.sound }
+    let r = err_from_is_err_and c.from_residual.result c.from_residual.ensures.1 in
+    let k = probed m _ c.args.cursor inv.2 c.loop-at.index c.loop-at.at inv.4 c.args.key.now c.probe_slot.result _ c.in_err-probe.was c.probe_slot.ensures.probe in
+    record { walk = rw (r.1, r.2) (refused c.loop-at-test.true inv.1 k); same = c.probe_slot.ensures.same ∙ inv.2; sound = c.probe_slot.ensures.sound }
 
 pub returns-in-Empty : goal.returns-in-Empty
 returns-in-Empty g c =
     let m : Meaning = g.D.Device.meaning c.args.d.now in
     let inv = c.loop-at.invariant in
-    let k = probed m _ c.args.cursor inv.2 c.loop-at.index c.loop-at.at inv.4 c.args.key.now c.probe-slot.result _ (c.in-ok-probe.was ∙ ap (λ (x : Probe). Ok x) c.in-Empty.is) c.probe-slot.ensures.probe in
-    record { walk = empty c.loop-at-test.true inv.1 k; same = c.probe-slot.ensures.same ∙ inv.2; sound = c.probe-slot.ensures.sound }
+    let k = probed m _ c.args.cursor inv.2 c.loop-at.index c.loop-at.at inv.4 c.args.key.now c.probe_slot.result _ (c.in_ok-probe.was ∙ ap (λ (x : Probe). Ok x) c.in-Empty.is) c.probe_slot.ensures.probe in
+    record { walk = empty c.loop-at-test.true inv.1 k; same = c.probe_slot.ensures.same ∙ inv.2; sound = c.probe_slot.ensures.sound }
 
 pub after-index-requires : goal.after-index-requires
 after-index-requires g c =
@@ -70,11 +70,11 @@ loop-at-preserved g c =
     let m : Meaning = g.D.Device.meaning c.args.d.now in
     let inv = c.loop-at.invariant in
     let u : Cursor = c.args.cursor in
-    let k = probed m _ u inv.2 c.loop-at.index c.loop-at.at inv.4 c.args.key.now c.probe-slot.result _ (c.in-ok-probe.was ∙ ap (λ (x : Probe). Ok x) c.in-Other.is) c.probe-slot.ensures.probe in (
+    let k = probed m _ u inv.2 c.loop-at.index c.loop-at.at inv.4 c.args.key.now c.probe_slot.result _ (c.in_ok-probe.was ∙ ap (λ (x : Probe). Ok x) c.in-Other.is) c.probe_slot.ensures.probe in (
       omega arith,
       passes-more m u c.args.key.now c.loop-at.at inv.1 k,
-      c.probe-slot.ensures.same ∙ inv.2,
-      c.probe-slot.ensures.sound,
+      c.probe_slot.ensures.same ∙ inv.2,
+      c.probe_slot.ensures.sound,
       c.after-index.ensures ∙ ap (λ (i : ℕ). (i + 1) % u.slots) inv.4 ∙ away_more u.slots u.hash c.loop-at.at,
     )
 
@@ -82,8 +82,8 @@ pub returns-in-Match : goal.returns-in-Match
 returns-in-Match g c =
     let m : Meaning = g.D.Device.meaning c.args.d.now in
     let inv = c.loop-at.invariant in
-    let k = probed m _ c.args.cursor inv.2 c.loop-at.index c.loop-at.at inv.4 c.args.key.now c.probe-slot.result _ (c.in-ok-probe.was ∙ ap (λ (x : Probe). Ok x) c.in-Match.is) c.probe-slot.ensures.probe in
-    record { walk = found c.loop-at-test.true inv.1 k; same = c.probe-slot.ensures.same ∙ inv.2; sound = c.probe-slot.ensures.sound }
+    let k = probed m _ c.args.cursor inv.2 c.loop-at.index c.loop-at.at inv.4 c.args.key.now c.probe_slot.result _ (c.in_ok-probe.was ∙ ap (λ (x : Probe). Ok x) c.in-Match.is) c.probe_slot.ensures.probe in
+    record { walk = found c.loop-at-test.true inv.1 k; same = c.probe_slot.ensures.same ∙ inv.2; sound = c.probe_slot.ensures.sound }
 
 pub returns : goal.returns
 returns g c =

@@ -25,19 +25,19 @@ module _ (m n : Meaning) (u : Cursor) (key : List ℕ) (same : n ≡ m) where
   denied : (r : Result Step FileFault) (f : FileFault) → r ≡ Err f → Advances n u key r → Next m u key (Err f) u
   denied r f q w = subst (λ (k : Meaning). Advances k u key (Err f)) same (subst (Advances n u key) q w)
 
-pub returns-in-err-step : goal.returns-in-err-step
-returns-in-err-step g c =
+pub returns-in_err-step : goal.returns-in_err-step
+returns-in_err-step g c =
     let m : Meaning = g.D.Device.meaning c.args.d.now in
     let inv = c.loop-step.invariant in
-    let r = err_from_is_err_and c.from-residual.result c.from-residual.ensures.1 in
-    let a = denied m _ c.loop-step.at c.args.key.now inv.0 c.advance.result _ c.in-err-step.was c.advance.ensures.answer in
+    let r = err_from_is_err_and c.from_residual.result c.from_residual.ensures.1 in
+    let a = denied m _ c.loop-step.at c.args.key.now inv.0 c.advance.result _ c.in_err-step.was c.advance.ensures.answer in
     record { nth = rw (r.1, r.2) (inv.2 _ (nths.refused a)); same = c.advance.ensures.same ∙ inv.0; sound = c.advance.ensures.sound }
 
-pub returns-in-default : goal.returns-in-default
-returns-in-default g c =
+pub returns-in_default : goal.returns-in_default
+returns-in_default g c =
     let m : Meaning = g.D.Device.meaning c.args.d.now in
     let inv = c.loop-step.invariant in
-    let a = advanced m _ c.loop-step.at c.args.key.now inv.0 c.advance.result c.in-ok-step.step c.in-ok-step.was c.advance.ensures.answer None c.in-default.is in
+    let a = advanced m _ c.loop-step.at c.args.key.now inv.0 c.advance.result c.in_ok-step.step c.in_ok-step.was c.advance.ensures.answer None c.in_default.is in
     record { nth = inv.2 (Ok None) (nths.ended a); same = c.advance.ensures.same ∙ inv.0; sound = c.advance.ensures.sound }
 
 pub returns-then-left-eq0 : goal.returns-then-left-eq0
@@ -45,8 +45,8 @@ returns-then-left-eq0 g c =
     let m : Meaning = g.D.Device.meaning c.args.d.now in
     let inv = c.loop-step.invariant in
     let u : Cursor = c.loop-step.at in
-    let s : Step = c.in-ok-step.step in
-    let a = advanced m _ u c.args.key.now inv.0 c.advance.result s c.in-ok-step.was c.advance.ensures.answer (Some c.in-Some.found) c.in-Some.is in
+    let s : Step = c.in_ok-step.step in
+    let a = advanced m _ u c.args.key.now inv.0 c.advance.result s c.in_ok-step.was c.advance.ensures.answer (Some c.in-Some.found) c.in-Some.is in
     record {
       nth = inv.2 _ (from_here m c.args.key.now u (probed_to u s.probed) c.loop-step.left c.in-Some.found c.if-left-eq0.true a);
       same = c.advance.ensures.same ∙ inv.0;
@@ -58,8 +58,8 @@ loop-step-preserved g c =
     let m : Meaning = g.D.Device.meaning c.args.d.now in
     let inv = c.loop-step.invariant in
     let u : Cursor = c.loop-step.at in
-    let s : Step = c.in-ok-step.step in
-    let a = advanced m _ u c.args.key.now inv.0 c.advance.result s c.in-ok-step.was c.advance.ensures.answer (Some c.in-Some.found) c.in-Some.is in (
+    let s : Step = c.in_ok-step.step in
+    let a = advanced m _ u c.args.key.now inv.0 c.advance.result s c.in_ok-step.was c.advance.ensures.answer (Some c.in-Some.found) c.in-Some.is in (
       c.advance.ensures.same ∙ inv.0,
       c.advance.ensures.sound,
       λ r n. inv.2 r (from_later m c.args.key.now u (probed_to u s.probed) c.loop-step.left c.in-Some.found (omega arith) a r n),

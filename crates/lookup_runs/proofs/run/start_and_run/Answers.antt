@@ -41,8 +41,8 @@ returns-in-Ok g c =
     let ks = c.args.calls.now in
     let first : Cursor = c.in-Ok.cursor in
     let st : Start m e key (Ok first) = subst (Start m e key) c.in-Ok.is c.start.ensures.answer in
-    let ran : RanLast m e key first b ks c.run-from.new.answers c.run-from.new.buffer =
-    subst (λ (n : Meaning). RanLast n e key first b ks c.run-from.new.answers c.run-from.new.buffer) c.start.ensures.same c.run-from.ensures.ran in
+    let ran : RanLast m e key first b ks c.run_from.new.answers c.run_from.new.buffer =
+    subst (λ (n : Meaning). RanLast n e key first b ks c.run_from.new.answers c.run_from.new.buffer) c.start.ensures.same c.run_from.ensures.ran in
     let to = ran.1 in
     record {
       runs = (c.if-answers-calls.false, record { first = first; last = ran.0; started = st; ran = to });
@@ -50,13 +50,13 @@ returns-in-Ok g c =
         refl,
         record {
           events = to.events;
-          tied = run_tied m e key first b ran.0 c.run-from.new.buffer ks to.events to.run;
+          tied = run_tied m e key first b ran.0 c.run_from.new.buffer ks to.events to.run;
           answers = to.answers;
-          gives = law_of_lookups m e rs key first ran.0 b c.run-from.new.buffer ks to.events ok law st to.run;
-          buffer = run_wrote m e key first b ran.0 c.run-from.new.buffer ks to.events to.run;
+          gives = law_of_lookups m e rs key first ran.0 b c.run_from.new.buffer ks to.events ok law st to.run;
+          buffer = run_wrote m e key first b ran.0 c.run_from.new.buffer ks to.events to.run;
         },
       );
-      kept = subst (λ (n : Meaning). Keeps e n (g.D.Device.meaning c.run-from.new.d)) c.start.ensures.same c.run-from.ensures.kept;
+      kept = subst (λ (n : Meaning). Keeps e n (g.D.Device.meaning c.run_from.new.d)) c.start.ensures.same c.run_from.ensures.kept;
       refused = tt;
-      sound = c.run-from.ensures.sound;
+      sound = c.run_from.ensures.sound;
     }

@@ -6,7 +6,7 @@ use Rattle.lookup_runs.proofs.step.fetch_found.Goals as goal
 use Rattle.lookup_runs.proofs.step.fetch_found.Goals.{then-wanted-len-via-then-wanted-len, then-wanted-len-via-else-wanted-len+then-wanted-len-2}
 
 pub returns-in-None : goal.returns-in-None
-returns-in-None g c = record { made = (skipped, not_found (sym c.found-by.ensures ∙ c.in-None.is), refl); same = refl; sound = c.requires.sound }
+returns-in-None g c = record { made = (skipped, not_found (sym c.found_by.ensures ∙ c.in-None.is), refl); same = refl; sound = c.requires.sound }
 
 pub returns-then-wanted-len : goal.returns-then-wanted-len
 returns-then-wanted-len g c =
@@ -15,7 +15,7 @@ returns-then-wanted-len g c =
       | then-wanted-len-via-then-wanted-len w ↦ omega (arith, w.if-wanted-len.true)
       | then-wanted-len-via-else-wanted-len+then-wanted-len-2 w ↦ omega (arith, w.if-wanted-len.false, w.if-wanted-len-2.true)
     ] in
-    record { made = (skipped, no_part (sym c.found-by.ensures ∙ c.in-Some.is) past, refl); same = refl; sound = c.requires.sound }
+    record { made = (skipped, no_part (sym c.found_by.ensures ∙ c.in-Some.is) past, refl); same = refl; sound = c.requires.sound }
 
 pub returns-else-wanted-len-2 : goal.returns-else-wanted-len-2
 returns-else-wanted-len-2 g c =
@@ -23,7 +23,7 @@ returns-else-wanted-len-2 g c =
     record {
       made = fetched_into m c.args.extent _ c.args.buffer.now c.args.wanted c.in-Some.found c.fetch.result c.fetch.new.buffer
           (c.args.wanted.place + c.args.wanted.len) refl (omega (arith, c.if-wanted-len.false, c.if-wanted-len-2.false))
-          (sym c.found-by.ensures ∙ c.in-Some.is) c.fetch.ensures.answer c.fetch.auto.buffer;
+          (sym c.found_by.ensures ∙ c.in-Some.is) c.fetch.ensures.answer c.fetch.auto.buffer;
       same = c.fetch.ensures.same;
       sound = c.fetch.ensures.sound;
     }

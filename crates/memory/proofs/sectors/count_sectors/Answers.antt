@@ -5,4 +5,4 @@ use Rattle.memory.proofs.sectors.count_sectors.Goals as goal
 
 pub returns : goal.returns
 returns c =
-    record { count = search rules; whole = memory_whole c.args.bytes.now true endless c.know-bytes.ensures (λ _. refl) }
+    record { count = search rules; whole = memory_whole c.args.bytes.now true endless c.know_bytes.ensures (λ _. refl) }

@@ -5,4 +5,4 @@ pub returns-in-Ok : goal.returns-in-Ok
 returns-in-Ok g c = record { moves = λ es. draft_published c.in-Ok.ensures.publishes; sound = c.publish.ensures.sound }
 
 pub returns-in-Err : goal.returns-in-Err
-returns-in-Err g c = record { moves = λ es. simp c.back-to.ensures (publish_refused _ c.in-Err.ensures.publishes); sound = c.publish.ensures.sound }
+returns-in-Err g c = record { moves = λ es. simp c.back_to.ensures (publish_refused _ c.in-Err.ensures.publishes); sound = c.publish.ensures.sound }

@@ -12,8 +12,8 @@ returns-then-not-stands g c =
     let e = c.args.e in
     let f = file m e in
     let t = c.loop-t.t in
-    let r = c.words-in-entry.result in
-    let pair : WordsAt f (8 * t) r = subst (λ (n : Meaning). WordsAt (file n e) (8 * t) r) c.loop-t.invariant.0 c.words-in-entry.ensures.words in
+    let r = c.words_in-entry.result in
+    let pair : WordsAt f (8 * t) r = subst (λ (n : Meaning). WordsAt (file n e) (8 * t) r) c.loop-t.invariant.0 c.words_in-entry.ensures.words in
     record {
       answer = record {
         within = search rules;
@@ -30,8 +30,8 @@ loop-t-preserved g c =
     let e = c.args.e in
     let f = file m e in
     let t = c.loop-t.t in
-    let r = c.words-in-entry.result in
-    let pair : WordsAt f (8 * t) r = subst (λ (n : Meaning). WordsAt (file n e) (8 * t) r) c.loop-t.invariant.0 c.words-in-entry.ensures.words in
+    let r = c.words_in-entry.result in
+    let pair : WordsAt f (8 * t) r = subst (λ (n : Meaning). WordsAt (file n e) (8 * t) r) c.loop-t.invariant.0 c.words_in-entry.ensures.words in
     let long : length f ≡ e.len = c.requires.ready.long in
     let z : t + 1 - 1 ≡ t = omega arith in (
       search rules,

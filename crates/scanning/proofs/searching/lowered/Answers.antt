@@ -22,7 +22,7 @@ returns-then-words-key g c =
     let q = c.args.slot.second in
     let long : length f ≡ c.args.e.len = c.requires.ready.long in
     record {
-      answer = inr ((λ a. c.if-words-key.true (c.words-in-words.ensures.words.0 ∙ key_lengths f c.args.p q (omega (arith, c.requires.key)) a.2 a.3 ∙ sym c.requires.key)), refl);
+      answer = inr ((λ a. c.if-words-key.true (c.words_in-words.ensures.words.0 ∙ key_lengths f c.args.p q (omega (arith, c.requires.key)) a.2 a.3 ∙ sym c.requires.key)), refl);
       same = search rules;
       sound = search rules;
     }

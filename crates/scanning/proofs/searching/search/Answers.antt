@@ -13,11 +13,11 @@ loop-j-preserved g c =
     let f = file m e in
     let j = c.loop-j.j in
     let low = c.loop-j.low in
-    let r = c.words-in-slot.result in
+    let r = c.words_in-slot.result in
     let p = c.args.head.first + 8 * c.turn.result in
     let s1 : g.D.Device.meaning c.loop-j.d ≡ m = c.loop-j.invariant.0 in
-    let s2 : g.D.Device.meaning c.words-in-slot.new.d ≡ m = c.words-in-slot.ensures.same ∙ s1 in
-    let pair : WordsAt f p r = subst (λ (n : Meaning). WordsAt (file n e) p r) s1 c.words-in-slot.ensures.words in
+    let s2 : g.D.Device.meaning c.words_in-slot.new.d ≡ m = c.words_in-slot.ensures.same ∙ s1 in
+    let pair : WordsAt f p r = subst (λ (n : Meaning). WordsAt (file n e) p r) s1 c.words_in-slot.ensures.words in
     let z : p ≡ slot_place c.args.head.first c.args.head.second c.args.hash j = ap (λ (i : ℕ). c.args.head.first + 8 * i) c.turn.ensures.slot in
     let lo : Lowers f c.args.hash c.args.p r.first r.second low c.lowered-low.result =
     subst (λ (n : Meaning). Lowers (file n e) c.args.hash c.args.p r.first r.second low c.lowered-low.result) s2 c.lowered-low.ensures.answer in (

@@ -8,9 +8,9 @@ pub loop-p-preserved : goal.loop-p-preserved
 loop-p-preserved g c =
     let m : Meaning = g.D.Device.meaning c.args.d.now in
     let f = file m c.args.e in
-    let r = c.words-in-words.result in
+    let r = c.words_in-words.result in
     let p = c.loop-p.p in
-    let pair : WordsAt f p r = subst (λ (n : Meaning). WordsAt (file n c.args.e) p r) c.loop-p.invariant.0 c.words-in-words.ensures.words in
+    let pair : WordsAt f p r = subst (λ (n : Meaning). WordsAt (file n c.args.e) p r) c.loop-p.invariant.0 c.words_in-words.ensures.words in
     let l : length f ≡ c.args.e.len = c.requires.ready.long in (
       search rules,
       search rules,

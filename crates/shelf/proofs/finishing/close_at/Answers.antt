@@ -12,7 +12,7 @@ returns g c =
     let n : Meaning = g.D.Device.meaning c.close.new.d in
     let P : Result (Unit {0}) (Located FileFault) → Type 0 = λ a. ClosesFile m c.args.start c.args.position c.args.entries.now a n in
     record {
-      closes = subst P (sym c.add-place.ensures) (closes_file m n c.args.start c.args.position c.args.entries.now c.close.result c.close.ensures.closes);
+      closes = subst P (sym c.add_place.ensures) (closes_file m n c.args.start c.args.position c.args.entries.now c.close.result c.close.ensures.closes);
       whole = c.close.ensures.whole;
       sound = c.close.ensures.sound;
     }

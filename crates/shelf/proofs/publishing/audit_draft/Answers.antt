@@ -12,7 +12,7 @@ returns g c =
     let m : Meaning = g.D.Device.meaning c.args.d.now in
     let P : Result Counts (Located FileFault) → Type 0 = λ a. AuditsDraft m c.args.draft.now a in
     record {
-      audits = subst P (sym c.add-place.ensures)
+      audits = subst P (sym c.add_place.ensures)
           (audits_draft m c.args.draft.now c.file-extent.result c.audit.result c.requires.size c.file-extent.ensures.start c.file-extent.ensures.len c.audit.ensures.verdict);
       same = search rules;
       sound = search rules;

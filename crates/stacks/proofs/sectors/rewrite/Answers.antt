@@ -8,10 +8,10 @@ returns g c =
     record {
       written =
           subst (Written (g.D.Device.meaning c.args.device.now) (512 * c.args.sector) c.args.new.now (Ok tt)) (sym c.read.ensures.same)
-          c.in-ok-write.ensures.written;
+          c.in_ok-write.ensures.written;
       again =
           reads_again (g.D.Device.meaning c.args.device.now) (g.D.Device.meaning c.write.new.self) (512 * c.args.sector) 512 c.args.new.now _
-          c.read.new.piece c.read.result (search rules) c.write.ensures.whole c.in-ok-write.ensures.written c.read.ensures.answer
-          c.in-ok-read.was c.read.ensures.piece;
+          c.read.new.piece c.read.result (search rules) c.write.ensures.whole c.in_ok-write.ensures.written c.read.ensures.answer
+          c.in_ok-read.was c.read.ensures.piece;
       sound = c.read.ensures.sound;
     }

@@ -28,11 +28,11 @@ loop-at-preserved c =
     let e : (c.loop-at.at + 1) + skip c.take.new.self.state ≡ (c.loop-at.at + 1) + c.skips-skip.result = omega arith in
     subst (Seen c.take.new.self.state c.args.text.now c.args.start) e
     (turned c.loop-at.lexer.state c.take.new.self.state c.args.text.now c.args.start c.loop-at.at c.loop-at.invariant c.loop-at-test.true
-    c.if-not-take.ensures bytes c.in-default.not-Record l)
+    c.if-not-take.ensures bytes c.in_default.not-Record l)
 
 pub returns-in-End : goal.returns-in-End
 returns-in-End c = last c.args.text.now c.loop-at.lexer.state c.args.start c.loop-at.at c.loop-at.invariant c.in-End.is c.loop-at-test.false
 
-pub returns-in-default-state : goal.returns-in-default-state
-returns-in-default-state c =
-    ended c.loop-at.lexer.state c.args.text.now c.args.start c.loop-at.at c.loop-at.invariant c.loop-at-test.false c.in-default-state.not-End
+pub returns-in_default-state : goal.returns-in_default-state
+returns-in_default-state c =
+    ended c.loop-at.lexer.state c.args.text.now c.args.start c.loop-at.at c.loop-at.invariant c.loop-at-test.false c.in_default-state.not-End

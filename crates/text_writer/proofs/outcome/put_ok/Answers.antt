@@ -10,12 +10,12 @@ returns c =
     let z = length_ok n m in
     record {
       lays =
-          laid_ok n m c.args.room c.args.line.now c.put-p1.new.buffer c.put-number-p2.new.buffer c.put-number.new.buffer
-          c.put-p1.result c.put-number-p2.result c.put-number.result
+          laid_ok n m c.args.room c.args.line.now c.put-p1.new.buffer c.put_number-p2.new.buffer c.put_number.new.buffer
+          c.put-p1.result c.put_number-p2.result c.put_number.result
           (omega (arith, c.width.ensures.is, c.width-2.ensures.is, c.if-room-width.false)) c.requires
           (record { place_is = c.put-p1.ensures.place; after_is = c.put-p1.ensures.after })
-          (numbered _ _ _ _ n 44 c.put-number-p2.ensures.place c.put-number-p2.ensures.after)
-          (numbered _ _ _ _ m 10 c.put-number.ensures.place c.put-number.ensures.after);
+          (numbered _ _ _ _ n 44 c.put_number-p2.ensures.place c.put_number-p2.ensures.after)
+          (numbered _ _ _ _ m 10 c.put_number.ensures.place c.put_number.ensures.after);
       enough = λ l. refl;
     }
 

@@ -11,7 +11,7 @@ returns c =
     record {
       place = omega arith;
       after = c.put.ensures.after
-          ∙ ap (λ (u : List ℕ). laid u c.put-digits-behind.result e) c.put-digits-behind.ensures.after
-          ∙ ap (λ (n : ℕ). laid (laid b c.args.at d) n e) c.put-digits-behind.ensures.place
+          ∙ ap (λ (u : List ℕ). laid u c.put_digits-behind.result e) c.put_digits-behind.ensures.after
+          ∙ ap (λ (n : ℕ). laid (laid b c.args.at d) n e) c.put_digits-behind.ensures.place
           ∙ laid_laid b d e c.args.at (omega arith);
     }

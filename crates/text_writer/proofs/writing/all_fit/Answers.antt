@@ -5,8 +5,8 @@ use Rattle.text.specs.Readings.{lent}
 use Rattle.text_writer.proofs.Back.{blank, proper_at, text_from, text_end}
 use Rattle.text_writer.proofs.writing.all_fit.Goals as goal
 
-pub line-len-len-requires : goal.line-len-len-requires
-line-len-len-requires c =
+pub line_len-len-requires : goal.line_len-len-requires
+line_len-len-requires c =
     let h = proper_at c.args.records.now c.loop-one.one_Index blank (omega arith) c.requires in
     (h.2, h.3)
 
@@ -14,7 +14,7 @@ pub returns-then-left-len : goal.returns-then-left-len
 returns-then-left-len c =
     let i = c.loop-one.invariant in
     let k = text_from c.args.records.now c.loop-one.one_Index blank (omega arith) in
-    ((λ e. absurd (false≢true e)), λ l. absurd (omega (arith, c.line-len-len.ensures)))
+    ((λ e. absurd (false≢true e)), λ l. absurd (omega (arith, c.line_len-len.ensures)))
 
 pub loop-one-preserved : goal.loop-one-preserved
 loop-one-preserved c =

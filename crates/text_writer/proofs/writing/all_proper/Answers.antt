@@ -8,14 +8,14 @@ use Rattle.text.specs.Readings.{lent}
 use Rattle.text_writer.proofs.Back.{blank, proper_at, all_proper_more}
 use Rattle.text_writer.proofs.writing.all_proper.Goals as goal
 
-pub returns-then-not-is-proper : goal.returns-then-not-is-proper
-returns-then-not-is-proper c = (
+pub returns-then-not-is_proper : goal.returns-then-not-is_proper
+returns-then-not-is_proper c = (
   (λ e. absurd (false≢true e)),
-  λ h. c.if-not-is-proper.ensures.1 (proper_at c.args.records.now c.loop-one.one_Index blank c.loop-one-test.true h),
+  λ h. c.if-not-is_proper.ensures.1 (proper_at c.args.records.now c.loop-one.one_Index blank c.loop-one-test.true h),
 )
 
 pub loop-one-preserved : goal.loop-one-preserved
-loop-one-preserved c = all_proper_more c.args.records.now c.loop-one.one_Index blank c.loop-one-test.true c.loop-one.invariant (c.if-not-is-proper.ensures.0 refl)
+loop-one-preserved c = all_proper_more c.args.records.now c.loop-one.one_Index blank c.loop-one-test.true c.loop-one.invariant (c.if-not-is_proper.ensures.0 refl)
 
 pub returns : goal.returns
 returns c = (

@@ -9,8 +9,8 @@ use Rattle.text_writer.proofs.Laying.{laid_laid}
 use Rattle.text_writer.proofs.Back.{blank, proper_at, text_from, text_end, joined_lines_more}
 use Rattle.text_writer.proofs.writing.put_lines.Goals as goal
 
-pub put-line-at-requires : goal.put-line-at-requires
-put-line-at-requires c =
+pub put_line-at-requires : goal.put_line-at-requires
+put_line-at-requires c =
     let h = proper_at c.args.records.now c.loop-one.one_Index blank (omega arith) c.requires.proper in
     let i = c.loop-one.invariant in
     let k = text_from c.args.records.now c.loop-one.one_Index blank (omega arith) in
@@ -25,11 +25,11 @@ loop-one-preserved c =
     let j = flat_map line (map lent (take n xs)) in
     let m = joined_lines_more xs n blank (omega arith) in
     let k = text_from xs n blank (omega arith) in
-    let p = c.put-line-at.ensures.place in
+    let p = c.put_line-at.ensures.place in
     let lm : length (flat_map line (map lent (take (n + 1) xs))) ≡ length j + length (line x) = ap length m ∙ length-append j (line x) in (
       omega (arith, i.0),
       omega (arith, i.1),
-      c.put-line-at.ensures.after
+      c.put_line-at.ensures.after
           ∙ ap (λ (z : List ℕ). laid z c.loop-one.at (line x)) i.2
           ∙ ap (λ (q : ℕ). laid (laid c.args.buffer.now 0 j) q (line x)) (zero_more c.loop-one.at (length j) i.0)
           ∙ laid_laid c.args.buffer.now j (line x) 0 (omega (arith, i.0, i.1, c.requires.fits))

@@ -9,8 +9,8 @@ returns c =
     let rs = map lent c.args.records.now in
     let b = c.args.buffer.now in
     let room = c.args.room in
-    let w : Writes rs room b (Ok c.put-end.result) c.put-end.new.buffer =
-    whole_text rs b c.put-lines-at.new.buffer c.put-end.new.buffer c.put-lines-at.result c.put-end.result room
-    (c.all-proper.ensures.0 c.if-not-all-proper.false) (c.all-fit.ensures.0 c.if-not-all-fit.false) c.requires
-    c.put-lines-at.ensures.place c.put-lines-at.ensures.after c.put-end.ensures.place c.put-end.ensures.after in
-    record { writes = w; text_back = text_back rs room b (Ok c.put-end.result) c.put-end.new.buffer w; list_back = list_back rs room b (Ok c.put-end.result) c.put-end.new.buffer w }
+    let w : Writes rs room b (Ok c.put_end.result) c.put_end.new.buffer =
+    whole_text rs b c.put_lines-at.new.buffer c.put_end.new.buffer c.put_lines-at.result c.put_end.result room
+    (c.all_proper.ensures.0 c.if-not-all_proper.false) (c.all_fit.ensures.0 c.if-not-all_fit.false) c.requires
+    c.put_lines-at.ensures.place c.put_lines-at.ensures.after c.put_end.ensures.place c.put_end.ensures.after in
+    record { writes = w; text_back = text_back rs room b (Ok c.put_end.result) c.put_end.new.buffer w; list_back = list_back rs room b (Ok c.put_end.result) c.put_end.new.buffer w }

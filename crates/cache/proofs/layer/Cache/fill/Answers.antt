@@ -12,7 +12,7 @@ after :
     (g : given.Over) (c : goal.After-fill g)
     → c.fill.new.self.table ≡ set c.args.self.now.pages.table (c.args.sector % 8) (page_for (g.D.Device.meaning c.args.self.now.below) c.args.sector)
 after g c =
-    let ok : is_ok c.read.result ≡ true = ap is_ok c.in-ok-read.was in
+    let ok : is_ok c.read.result ≡ true = ap is_ok c.in_ok-read.was in
     let full : c.read.new.piece ≡ part (g.D.Device.meaning c.args.self.now.below).bytes (512 * c.args.sector) 512 =
     read_done _ c.read.result _ _ c.read.new.piece c.read.ensures.answer ok c.read.ensures.piece in
     subst (λ (bs : List ℕ). c.fill.new.self.table ≡ set c.args.self.now.pages.table (c.args.sector % 8) (record { sector = Some c.args.sector; bytes = bs }))
@@ -22,7 +22,7 @@ pub returns : goal.returns
 returns g c =
     record {
       answer =
-          sym c.in-ok-read.was ∙ c.read.ensures.answer
+          sym c.in_ok-read.was ∙ c.read.ensures.answer
           ∙ ap answer (whole_sector (g.D.Device.meaning c.args.self.now.below) c.args.sector c.requires.within.1.0);
       same = c.read.ensures.same;
       sound = (

@@ -4,9 +4,9 @@ use Rattle.memory.proofs.Stores.{LaidOver, laid_over}
 use Rattle.memory.proofs.writing.WriteMemory.store.Goals as goal
 
 after :
-    (c : goal.After-left·1)
-    → LaidOver c.args.self.now.bytes.now c.lay-over.new.to c.args.piece.now c.args.place c.args.self.now.power (writes c.args.self.now.left) (writes c.args.left)
-after c = laid_over _ _ _ _ _ _ _ c.requires.sound.1 c.requires.free c.know-bytes.ensures c.lay-over.ensures
+    (c : goal.After-left-1)
+    → LaidOver c.args.self.now.bytes.now c.lay_over.new.to c.args.piece.now c.args.place c.args.self.now.power (writes c.args.self.now.left) (writes c.args.left)
+after c = laid_over _ _ _ _ _ _ _ c.requires.sound.1 c.requires.free c.know_bytes.ensures c.lay_over.ensures
 
 pub returns : goal.returns
 returns c =

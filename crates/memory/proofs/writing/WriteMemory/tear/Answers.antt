@@ -5,12 +5,12 @@ use Rattle.memory.proofs.Stores.{TornOver, torn_over}
 use Rattle.memory.proofs.writing.WriteMemory.tear.Goals as goal
 
 after :
-    (c : goal.After-self·1)
-    → TornOver c.args.self.now.tear c.args.self.now.bytes.now c.lay-over.new.to c.args.piece.now c.args.place c.args.self.now.power (writes c.args.self.now.left)
+    (c : goal.After-self-1)
+    → TornOver c.args.self.now.tear c.args.self.now.bytes.now c.lay_over.new.to c.args.piece.now c.args.place c.args.self.now.power (writes c.args.self.now.left)
 after c =
     let k : ℕ = torn_stored c.args.self.now.tear c.args.place (length c.args.piece.now) in
-    let e : c.lay-over.new.to ≡ laid c.args.self.now.bytes.now c.args.place (take k c.args.piece.now) = search rules in
-    torn_over _ _ _ _ _ _ _ c.requires.sound.1 c.requires.free c.know-bytes.ensures e
+    let e : c.lay_over.new.to ≡ laid c.args.self.now.bytes.now c.args.place (take k c.args.piece.now) = search rules in
+    torn_over _ _ _ _ _ _ _ c.requires.sound.1 c.requires.free c.know_bytes.ensures e
 
 pub returns : goal.returns
 returns c =

@@ -11,7 +11,7 @@ loop-n-preserved c =
     let f = c.args.self.now.file.now in
     let p = c.loop-n.place in
     let e = c.in-Some.record in
-    let h = subst (λ (o : Option PlacedRecord). Found f p (Ok o)) c.in-Some.is c.in-ok-record-at.ensures in
+    let h = subst (λ (o : Option PlacedRecord). Found f p (Ok o)) c.in-Some.is c.in_ok-record_at.ensures in
     let q : p + size (record_of e) ≡ e.data_place + length e.«data».now = omega (arith, h.1.1) in
     let w = one_more f c.args.self.now.place p (p + size (record_of e)) c.loop-n.n (record_of e) c.loop-n.invariant.0 h.0 in
-    (subst (λ (t : ℕ). Walked f c.args.self.now.place t (c.loop-n.n + 1)) q w, omega (arith, h.2, c.in-ok-end.ensures), omega arith)
+    (subst (λ (t : ℕ). Walked f c.args.self.now.place t (c.loop-n.n + 1)) q w, omega (arith, h.2, c.in_ok-end.ensures), omega arith)
