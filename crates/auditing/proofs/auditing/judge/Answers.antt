@@ -159,8 +159,8 @@ returns-in_err-check_order g c =
       sound = c.check_order.ensures.sound;
     }
 
-pub overflow-sub-result : goal.overflow-sub-result
-overflow-sub-result g c =
+pub overflow_sub-result : goal.overflow_sub-result
+overflow_sub-result g c =
     let m : Meaning = g.D.Device.meaning c.args.d.now in
     let e : Extent = c.args.e in
     let f : List ℕ = file m e in

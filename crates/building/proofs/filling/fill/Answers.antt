@@ -10,8 +10,8 @@ use Rattle.building.proofs.Counting.{entry_at}
 use Rattle.building.proofs.Grown.{filled_more, filled_within, filled_reads, filled_room, filled_lost, filled_all, by_start, to_start, len_fits}
 use Rattle.building.proofs.filling.fill.Goals as goal
 
-pub overflow-mul-counts : goal.overflow-mul-counts
-overflow-mul-counts g c =
+pub overflow_mul-counts : goal.overflow_mul-counts
+overflow_mul-counts g c =
     let t = (entry_at c.args.entries.now c.loop-i.i).hash % 256 in
     let h : 2 * get_or c.args.counts.now t 0 < 2 ^ 32 = len_fits c.args.counts.now c.args.entries.now t (omega arith) c.requires.counts (omega (arith, c.requires.within, c.requires.whole.few)) in
     search rules

@@ -11,18 +11,18 @@ use Rattle.building.proofs.heading.write_header.Goals as goal
 pub loop-t-init : goal.loop-t-init
 loop-t-init g c = (c.requires.sound, omega arith, head_none (g.D.Device.meaning c.args.d.now) c.args.base c.args.end c.args.counts.now (omega (arith, c.requires.whole.long, c.requires.within)), c.requires.whole)
 
-pub overflow-mul-len : goal.overflow-mul-len
-overflow-mul-len g c =
+pub overflow_mul-len : goal.overflow_mul-len
+overflow_mul-len g c =
     let h = start_fits c.args.counts.now c.args.end c.loop-t.next c.loop-t.t (omega arith) c.requires.fits c.loop-t.invariant.1 in
     search rules
 
-pub overflow-mul-next : goal.overflow-mul-next
-overflow-mul-next g c =
+pub overflow_mul-next : goal.overflow_mul-next
+overflow_mul-next g c =
     let h = start_fits c.args.counts.now c.args.end c.loop-t.next c.loop-t.t (omega arith) c.requires.fits c.loop-t.invariant.1 in
     search rules
 
-pub overflow-add-next : goal.overflow-add-next
-overflow-add-next g c =
+pub overflow_add-next : goal.overflow_add-next
+overflow_add-next g c =
     let h = start_fits c.args.counts.now c.args.end c.loop-t.next c.loop-t.t (omega arith) c.requires.fits c.loop-t.invariant.1 in
     search rules
 

@@ -3,13 +3,13 @@ use Rattle.std.proofs.lemmas.List.{length-set}
 use Rattle.building.proofs.Counting.{start_fits, start_next, starts_more}
 use Rattle.building.proofs.layout.starts_of.Goals as goal
 
-pub overflow-mul-next : goal.overflow-mul-next
-overflow-mul-next c =
+pub overflow_mul-next : goal.overflow_mul-next
+overflow_mul-next c =
     let h = start_fits c.args.counts.now c.args.from c.loop-t.next c.loop-t.t (omega arith) c.requires c.loop-t.invariant.1 in
     search rules
 
-pub overflow-add-next : goal.overflow-add-next
-overflow-add-next c =
+pub overflow_add-next : goal.overflow_add-next
+overflow_add-next c =
     let h = start_fits c.args.counts.now c.args.from c.loop-t.next c.loop-t.t (omega arith) c.requires c.loop-t.invariant.1 in
     search rules
 

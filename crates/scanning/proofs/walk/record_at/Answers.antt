@@ -11,14 +11,14 @@ words_in-words-requires g c =
     let a = ahead_next f c.args.p c.args.end c.requires.records (search rules) in
     record { sound = search rules; ready = search rules; within = omega (arith, a.0) }
 
-pub overflow-add-result-2 : goal.overflow-add-result-2
-overflow-add-result-2 g c =
+pub overflow_add-result-2 : goal.overflow_add-result-2
+overflow_add-result-2 g c =
     let f = file (g.D.Device.meaning c.args.d.now) c.args.e in
     let a = ahead_next f c.args.p c.args.end c.requires.records (search rules) in
     omega (arith, a.0, c.words_in-words.ensures.words)
 
-pub overflow-add-result-3 : goal.overflow-add-result-3
-overflow-add-result-3 g c =
+pub overflow_add-result-3 : goal.overflow_add-result-3
+overflow_add-result-3 g c =
     let f = file (g.D.Device.meaning c.args.d.now) c.args.e in
     let a = ahead_next f c.args.p c.args.end c.requires.records (search rules) in
     omega (arith, a.0, c.words_in-words.ensures.words)

@@ -10,8 +10,8 @@ loop-rest-init c =
       omega arith,
     )
 
-pub overflow-sub-place : goal.overflow-sub-place
-overflow-sub-place c = omega (arith, c.loop-rest.invariant.0.counted, narrower c.loop-rest.rest (omega arith) (omega (arith, c.loop-rest.invariant.1)))
+pub overflow_sub-place : goal.overflow_sub-place
+overflow_sub-place c = omega (arith, c.loop-rest.invariant.0.counted, narrower c.loop-rest.rest (omega arith) (omega (arith, c.loop-rest.invariant.1)))
 
 pub bounds-buffer-place : goal.bounds-buffer-place
 bounds-buffer-place c =

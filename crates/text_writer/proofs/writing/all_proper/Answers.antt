@@ -11,14 +11,14 @@ use Rattle.text_writer.proofs.writing.all_proper.Goals as goal
 pub returns-then-not-is_proper : goal.returns-then-not-is_proper
 returns-then-not-is_proper c = (
   (λ e. absurd (false≢true e)),
-  λ h. c.if-not-is_proper.ensures.1 (proper_at c.args.records.now c.loop-one.one_Index blank c.loop-one-test.true h),
+  λ h. c.if-not-is_proper.ensures.1 (proper_at c.args.records.now c.loop-one.one-index blank c.loop-one-test.true h),
 )
 
 pub loop-one-preserved : goal.loop-one-preserved
-loop-one-preserved c = all_proper_more c.args.records.now c.loop-one.one_Index blank c.loop-one-test.true c.loop-one.invariant (c.if-not-is_proper.ensures.0 refl)
+loop-one-preserved c = all_proper_more c.args.records.now c.loop-one.one-index blank c.loop-one-test.true c.loop-one.invariant (c.if-not-is_proper.ensures.0 refl)
 
 pub returns : goal.returns
 returns c = (
-  (λ e. subst (λ (xs : List LentRecord). All Proper (map lent xs)) (take_all c.loop-one.one_Index c.args.records.now c.loop-one-test.false) c.loop-one.invariant),
+  (λ e. subst (λ (xs : List LentRecord). All Proper (map lent xs)) (take_all c.loop-one.one-index c.args.records.now c.loop-one-test.false) c.loop-one.invariant),
   λ h. refl,
 )

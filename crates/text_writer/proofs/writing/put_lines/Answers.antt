@@ -11,16 +11,16 @@ use Rattle.text_writer.proofs.writing.put_lines.Goals as goal
 
 pub put_line-at-requires : goal.put_line-at-requires
 put_line-at-requires c =
-    let h = proper_at c.args.records.now c.loop-one.one_Index blank (omega arith) c.requires.proper in
+    let h = proper_at c.args.records.now c.loop-one.one-index blank (omega arith) c.requires.proper in
     let i = c.loop-one.invariant in
-    let k = text_from c.args.records.now c.loop-one.one_Index blank (omega arith) in
+    let k = text_from c.args.records.now c.loop-one.one-index blank (omega arith) in
     record { words = (h.2, h.3); fits = omega (arith, i.1, c.requires.fits) }
 
 pub loop-one-preserved : goal.loop-one-preserved
 loop-one-preserved c =
     let i = c.loop-one.invariant in
     let xs = c.args.records.now in
-    let n = c.loop-one.one_Index in
+    let n = c.loop-one.one-index in
     let x = lent (get_or xs n blank) in
     let j = flat_map line (map lent (take n xs)) in
     let m = joined_lines_more xs n blank (omega arith) in
@@ -43,7 +43,7 @@ pub returns : goal.returns
 returns c =
     let i = c.loop-one.invariant in
     let xs = c.args.records.now in
-    let n = c.loop-one.one_Index in
+    let n = c.loop-one.one-index in
     let k = text_end xs n (omega arith) in
     record {
       place = omega (arith, i.1);
