@@ -63,18 +63,26 @@ def ours():
 
 
 def respell_antt(t, names, goals):
-    def word(m):
-        n = m.group(0)
-        if n not in names:
-            return n
-        if goals and m.start() and t[m.start() - 1] == "." and n not in FIELDS:
-            return n
-        return names[n]
+    def respell_code(code):
+        def word(m):
+            n = m.group(0)
+            if n not in names:
+                return n
+            if goals and m.start() and code[m.start() - 1] == "." and n not in FIELDS:
+                return n
+            return names[n]
 
-    return re.sub(WORD, word, t)
+        return re.sub(WORD, word, code)
+
+    lines = []
+    for line in t.split("\n"):
+        code, dashes, said = line.partition("--")
+        lines.append(respell_code(code) + dashes + said)
+    return "\n".join(lines)
 
 
 def respell_rt(t, names):
+    aliases = {n: respelled(n) for n in re.findall(r" as ([\w-]+-[\w-]+)", t)}
     lines = []
     ghost = False
     for line in t.split("\n"):
@@ -82,7 +90,7 @@ def respell_rt(t, names):
         ghost = ghost or bool(re.match(r"ghost |(requires|ensures)\b|#\[tactic", s))
         if ghost and not s.startswith("//"):
             line = re.sub(r"«(\w+(?:-\w+)+)»", lambda m: respelled(m.group(1)), line)
-            line = re.sub(WORD, lambda m: names.get(m.group(0), m.group(0)), line)
+            line = re.sub(WORD, lambda m: names.get(m.group(0), aliases.get(m.group(0), m.group(0))), line)
         if ghost and (s.endswith((";", "}", ",", "]")) or s == ""):
             ghost = False
         lines.append(line)

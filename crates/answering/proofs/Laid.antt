@@ -1,5 +1,5 @@
 -- A file laid at the start of memory can be read, and is read as it was handed over.
-use Rattle.std.proofs.Common.{◌≡◌, ℕ, ◌+◌, ◌*◌, ◌/◌, ◌≤◌, min, true, ◌⊎◌, List, [], ◌++◌, length, take, drop, Ok, Err, Result, sym, refl, ap, ◌∙◌, subst, inl, inr, ⊎_elim, arith}
+use Rattle.std.proofs.Common.{◌≡◌, ℕ, ◌*◌, ◌/◌, ◌≤◌, min, true, List, length, take, drop, Ok, Err, refl, ap, ◌∙◌, subst, ⊎_elim, arith}
 use Rattle.std.proofs.lemmas.List.{take-take, take_at}
 use Rattle.byte_lists.specs.Bytes.{laid}
 use Rattle.faults.specs.declared.file.FileFault.{FileFault}

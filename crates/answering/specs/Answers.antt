@@ -1,5 +1,5 @@
 -- What the program answers for an input, and the line that tells it.
-use Rattle.std.specs.Prelude.{◌≡◌, ℕ, ◌<◌, ◌≤◌, ◌⊎◌, List, [], ◌∷◌, ◌++◌, length, codes, decimal}
+use Rattle.std.specs.Prelude.{◌≡◌, ℕ, ◌<◌, ◌≤◌, ◌⊎◌, List, ◌++◌, length, codes, decimal}
 use Rattle.faults.specs.Reports.{report}
 use Rattle.cdb.specs.Verdicts.{Verdict, accepted, refused, Judged}
 use Rattle.answering.specs.declared.answers.Answer.{Answer}

@@ -1,8 +1,8 @@
 -- Roots that are not lawful.
-use Rattle.std.proofs.Common.{◌≡◌, ℕ, ◌+◌, ◌-◌, ◌*◌, ◌/◌, ◌^◌, ◌<◌, ◌≤◌, List, sym, refl, ap, ◌∙◌, subst, arith}
+use Rattle.std.proofs.Common.{◌≡◌, ℕ, ◌≤◌, List, sym, ◌∙◌, subst, arith}
 use Rattle.byte_lists.specs.Bytes.{word_at}
 use Rattle.areas.specs.declared.area.Area.{Area}
-use Rattle.areas.specs.Geometry.{number, area_size, root_bytes}
+use Rattle.areas.specs.Geometry.{number}
 use Rattle.areas.specs.Roots.{LawfulRoot}
 use Rattle.areas.proofs.Rooted.{root_words, same_area}
 

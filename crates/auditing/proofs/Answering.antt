@@ -1,5 +1,5 @@
 -- One answer fits, and it accepts exactly what is made.
-use Rattle.std.proofs.Common.{◌≡◌, ℕ, ◌+◌, ◌*◌, ◌/◌, ◌^◌, ◌<◌, ◌≤◌, Bool, true, false, cond, eqb, ◌⊎◌, List, [], ◌∷◌, length, Some, None, Ok, Err, Option, Result, sym, refl, ap, ◌∙◌, subst, inl, inr, ⊎_elim, arith, MatchResult}
+use Rattle.std.proofs.Common.{◌≡◌, ℕ, ◌+◌, ◌/◌, ◌^◌, ◌<◌, ◌≤◌, Bool, true, false, cond, eqb, List, [], ◌∷◌, length, Some, Ok, Err, Result, sym, refl, ap, ◌∙◌, ⊎_elim, arith}
 use mathlib.Core.Bool.{false≢true}
 use Rattle.std.specs.List.{AllByRecursion as All}
 use Rattle.std.proofs.lemmas.Bool.{cases_lt}
@@ -13,7 +13,6 @@ use Rattle.faults.specs.declared.file.FileFault.TheVariants as fault
 use Rattle.faults.specs.Reports.{report, located, device_report, file_report}
 use Rattle.device.specs.Meanings.{Meaning, Whole, refuses}
 use Rattle.cdb.specs.Records.{Record, Item, items}
-use Rattle.cdb.specs.Files.{Made}
 use Rattle.cdb.specs.Rules.{Rule4, Lawful}
 use Rattle.cdb.specs.Verdicts.{Verdict, accepted, refused, slots_below, Probes, Judged, broken_1, broken_2, broken_3, broken_4, broken_5, broken_6, broken_7, broken_8, keeps_all}
 use Rattle.cdb.proofs.Exactly.{lawful_exactly}

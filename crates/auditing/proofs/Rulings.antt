@@ -1,5 +1,5 @@
 -- From what the passes find to the verdict.
-use Rattle.std.proofs.Common.{◌≡◌, ℕ, zero, suc, ◌+◌, ◌-◌, ◌*◌, ◌/◌, ◌<◌, ◌≤◌, Bool, true, false, cond, ltb, ◌⊎◌, List, [], ◌∷◌, length, get_or, Ok, Err, count_by, sym, refl, ap, ◌∙◌, subst, ⊎_elim, arith}
+use Rattle.std.proofs.Common.{◌≡◌, ℕ, zero, suc, ◌+◌, ◌-◌, ◌*◌, ◌/◌, ◌<◌, ◌≤◌, Bool, true, false, cond, ltb, List, [], ◌∷◌, length, get_or, Ok, Err, count_by, sym, refl, ap, ◌∙◌, subst, ⊎_elim, arith}
 use Rattle.std.specs.List.{AllByRecursion as All}
 use Rattle.std.proofs.lemmas.List.Sums.{sum_by-cons, count_by-le-length}
 use Rattle.std.proofs.lemmas.Bool.{lt-ltb, le-ltb, cases_lt}
@@ -7,7 +7,7 @@ use Rattle.faults.specs.declared.file.FileFault.{FileFault}
 use Rattle.faults.specs.declared.file.FileFault.TheVariants as fault
 use Rattle.faults.specs.Reports.{report}
 use Rattle.cdb.specs.Records.{Record, Records, items, table_of}
-use Rattle.cdb.specs.Tables.{Slot, blank, slot}
+use Rattle.cdb.specs.Tables.{Slot, blank}
 use Rattle.cdb.specs.Files.{position, slot_count, slots_at, ends}
 use Rattle.cdb.specs.Rules.{First, Each, Rule1, Rule2, Rule3, Rule4, Rule5, Rule6, Clear, Rule7, Lawful}
 use Rattle.cdb.specs.Verdicts.{refused, slots_below, Judged, broken_4, broken_5, broken_6, broken_7, broken_8, keeps_all}

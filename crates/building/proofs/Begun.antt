@@ -1,18 +1,18 @@
 -- Tables that start empty.
-use Rattle.std.proofs.Common.{◌≡◌, ℕ, zero, suc, ◌+◌, ◌-◌, ◌*◌, ◌/◌, ◌%◌, ◌^◌, ◌<◌, ◌≤◌, Bool, true, false, ◌⊎◌, List, [], ◌∷◌, ◌++◌, length, get_or, take, drop, replicate, Ok, Err, sum, Result, sym, refl, ap, ◌∙◌, subst, inl, inr, ⊎_elim, arith}
+use Rattle.std.proofs.Common.{◌≡◌, ℕ, ◌+◌, ◌-◌, ◌*◌, ◌<◌, ◌≤◌, List, [], length, get_or, take, replicate, Ok, Err, sum, Result, sym, refl, ap, ◌∙◌, subst, inr, arith}
 use Rattle.std.proofs.lemmas.List.{get_or-replicate}
 use Rattle.byte_lists.proofs.Parts.{At, at_get_d}
 use Rattle.faults.specs.declared.device.DeviceFault.{DeviceFault}
-use Rattle.device.specs.Meanings.{Meaning, Whole, is_bad}
-use Rattle.cdb.specs.Tables.{Slot, blank, Fills, start}
-use Rattle.writing.specs.Runs.{Touches, Outside, Keeps, Completed, Lost, Interrupted}
+use Rattle.device.specs.Meanings.{Meaning, Whole}
+use Rattle.cdb.specs.Tables.{Slot, Fills, start}
+use Rattle.writing.specs.Runs.{Outside, Keeps, Completed, Lost, Interrupted}
 use Rattle.writing.proofs.Keeping.{completed_keeps, keeps_all, keeps_both, used_none, used_both, counted_before}
 use Rattle.writing.proofs.Running.{bad_after}
 use Rattle.writing.proofs.Zeroed.{zeros_long}
 use Rattle.building.specs.declared.entries.Entry.{Entry}
-use Rattle.building.specs.Entries.{count_of, count_before}
+use Rattle.building.specs.Entries.{count_of}
 use Rattle.building.specs.Builds.{Counts, Starts, start_of, FilledWith, FillsAll}
-use Rattle.building.specs.Closes.{Built, Builds}
+use Rattle.building.specs.Closes.{Builds}
 use Rattle.building.proofs.Counting.{count_fits, sum_below}
 use Rattle.building.proofs.Slotted.{slots_zero, at_laid}
 

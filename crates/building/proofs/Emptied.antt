@@ -1,5 +1,5 @@
 -- The file without records.
-use Rattle.std.proofs.Common.{◌≡◌, ℕ, List, [], length, replicate, sym, refl, ap, ◌∙◌, subst}
+use Rattle.std.proofs.Common.{◌≡◌, length, replicate, refl}
 use Rattle.cdb.specs.Files.{file_of}
 use Rattle.building.specs.Builds.{headed}
 use Rattle.building.specs.Empty.{empty_file}

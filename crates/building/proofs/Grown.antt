@@ -1,24 +1,23 @@
 -- Tables that grow.
-use Rattle.std.proofs.Common.{◌≡◌, ℕ, zero, suc, ◌+◌, ◌-◌, ◌*◌, ◌/◌, ◌%◌, ◌^◌, ◌<◌, ◌≤◌, Bool, true, false, cond, eqb, ltb, ◌≢◌, ◌⊎◌, List, [], ◌∷◌, ◌++◌, map, length, get_or, take, drop, set, replicate, sum_by, count_by, filter, sym, refl, ap, ◌∙◌, subst, inl, inr, ⊎_elim, mod-lt, arith}
-use mathlib.Core.Bool.{false≢true}
+use Rattle.std.proofs.Common.{◌≡◌, ℕ, zero, suc, ◌+◌, ◌*◌, ◌/◌, ◌%◌, ◌^◌, ◌<◌, ◌≤◌, Bool, true, false, cond, List, [], ◌∷◌, ◌++◌, map, length, get_or, take, set, replicate, count_by, filter, sym, refl, ap, ◌∙◌, subst, inl, inr, ⊎_elim, mod-lt, arith}
 use Rattle.std.proofs.lemmas.List.Sums.{sum_by-cons, sum_by-take-le, count_by_more_yes, length-filter}
 use Rattle.std.proofs.lemmas.List.Elements.{filter_more}
 use Rattle.std.proofs.lemmas.Bool.{cases_lt, cases_eq, eq-eqb, ne_eqb}
 use Rattle.std.proofs.lemmas.List.{length-replicate, length-set, length_push, length-map, map-append, append-nil, take_all}
 use Rattle.byte_lists.specs.Bytes.{word_at}
-use Rattle.device.specs.Meanings.{Meaning, is_bad}
-use Rattle.cdb.specs.Tables.{Slot, blank, slot, Empty, home, slot_away, Puts, Fills, start, put}
+use Rattle.device.specs.Meanings.{Meaning}
+use Rattle.cdb.specs.Tables.{Slot, blank, slot, home, slot_away, Fills, start, put}
 use Rattle.cdb.specs.Files.{slots_at}
 use Rattle.cdb.proofs.Placement.{length_slots_at}
 use Rattle.cdb.proofs.Forward.{taken, empty_slot}
 use Rattle.cdb.proofs.Backward.{pos_all}
 use Rattle.cdb.proofs.Slots.{slot_at}
 use Rattle.file.specs.Ranges.{AllRead}
-use Rattle.writing.specs.Runs.{Touches, Outside, Used, Keeps, Lost}
+use Rattle.writing.specs.Runs.{Outside, Lost}
 use Rattle.writing.proofs.Keeping.{used_both, counted_before, keeps_both, outside_part}
 use Rattle.writing.proofs.Running.{bad_after}
 use Rattle.building.specs.declared.entries.Entry.{Entry}
-use Rattle.building.specs.Entries.{slot_of, belongs, count_of, count_before, puts_into}
+use Rattle.building.specs.Entries.{slot_of, belongs, count_of, puts_into}
 use Rattle.building.specs.Builds.{Counts, Starts, start_of, table_at, HasRoom, PutInto, FilledWith}
 use Rattle.building.proofs.Ranged.{good_range}
 use Rattle.building.proofs.Slotted.{slots_same}

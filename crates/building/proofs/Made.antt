@@ -1,5 +1,5 @@
 -- A file with the tables of its records' entries is lawful.
-use Rattle.std.proofs.Common.{◌≡◌, ℕ, zero, suc, ◌+◌, ◌-◌, ◌*◌, ◌/◌, ◌%◌, ◌^◌, ◌<◌, ◌≤◌, Bool, true, false, cond, eqb, ◌⊎◌, List, [], ◌∷◌, ◌++◌, map, length, get_or, filter, sym, refl, ap, ◌∙◌, subst, inl, inr, ⊎_elim, arith}
+use Rattle.std.proofs.Common.{◌≡◌, ℕ, zero, suc, ◌+◌, ◌*◌, ◌%◌, ◌^◌, ◌<◌, Bool, true, false, cond, eqb, List, [], ◌∷◌, map, length, get_or, filter, sym, refl, ap, ◌∙◌, subst, inl, inr, ⊎_elim, arith}
 use mathlib.Core.Bool.{false≢true}
 use Rattle.std.specs.List.{flat_map}
 use Rattle.std.proofs.lemmas.List.{length-map}
@@ -8,8 +8,8 @@ use Rattle.std.proofs.lemmas.List.Sorted.{IsPermutation-refl}
 use Rattle.std.proofs.lemmas.Bool.{cases_eq}
 use Rattle.byte_lists.specs.Bytes.{part}
 use Rattle.cdb.specs.Records.{Record, Item, record_bytes, items, belonging, hash_of, table_of}
-use Rattle.cdb.specs.Tables.{Slot, entry, Fills, Permitted, Roomy}
-use Rattle.cdb.specs.Files.{position, slot_count, slots_at, slots_in}
+use Rattle.cdb.specs.Tables.{Slot, entry, Permitted, Roomy}
+use Rattle.cdb.specs.Files.{position, slot_count, slots_in}
 use Rattle.cdb.specs.Rules.{Lawful}
 use Rattle.cdb.proofs.TableLaw.{InFile, FillsItems, LawfulTable}
 use Rattle.cdb.proofs.Raw.{fills_items}
@@ -19,7 +19,7 @@ use Rattle.cdb.proofs.Backward.{above}
 use Rattle.cdb.proofs.FileProof.{belonging_in_file}
 use Rattle.cdb.proofs.ByTable.{all_tables}
 use Rattle.building.specs.declared.entries.Entry.{Entry}
-use Rattle.building.specs.Entries.{slot_of, belongs, count_of, count_before, puts_into, Tabled}
+use Rattle.building.specs.Entries.{slot_of, belongs, count_of, puts_into, Tabled}
 use Rattle.building.proofs.Counting.{below_more, below_none, below_all}
 use Rattle.building.proofs.Grown.{order_long}
 

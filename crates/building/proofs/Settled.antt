@@ -1,5 +1,5 @@
 -- An entry in its table.
-use Rattle.std.proofs.Common.{◌≡◌, ℕ, zero, suc, ◌+◌, ◌-◌, ◌*◌, ◌/◌, ◌%◌, ◌^◌, ◌<◌, ◌≤◌, Bool, true, false, ◌≢◌, ◌⊎◌, List, [], ◌∷◌, ◌++◌, length, get_or, take, drop, set, Ok, Err, Result, sym, refl, ap, ◌∙◌, subst, inl, inr, ⊎_elim, mod-lt, arith}
+use Rattle.std.proofs.Common.{◌≡◌, ℕ, ◌+◌, ◌*◌, ◌^◌, ◌<◌, ◌≤◌, false, List, length, set, Ok, Err, Result, sym, refl, ap, ◌∙◌, subst, inl, inr, ⊎_elim, mod-lt, arith}
 use mathlib.Core.Bool.{false≢true}
 use Rattle.std.proofs.lemmas.Bool.{cases_lt}
 use Rattle.byte_lists.specs.Bytes.{word_at}
@@ -7,14 +7,14 @@ use Rattle.byte_lists.proofs.Parts.{At}
 use Rattle.faults.specs.declared.device.DeviceFault.{DeviceFault}
 use Rattle.faults.specs.declared.device.DeviceFault.TheVariants.{Range, Power, Bad}
 use Rattle.device.specs.Meanings.{Meaning, Whole, is_bad}
-use Rattle.cdb.specs.Tables.{Slot, slot, Empty, Filled, Puts, home, slot_away}
+use Rattle.cdb.specs.Tables.{Slot, Empty, Filled, Puts, home, slot_away}
 use Rattle.cdb.specs.Files.{slot_bytes, slots_at}
 use Rattle.cdb.proofs.Slots.{slot_at}
 use Rattle.cdb.proofs.Placement.{length_slots_at}
 use Rattle.file.specs.Ranges.{AllRead}
-use Rattle.writing.specs.Runs.{Touches, Outside, Keeps, Completed, Lost, Runs}
+use Rattle.writing.specs.Runs.{Outside, Keeps, Completed, Runs}
 use Rattle.writing.proofs.Keeping.{completed_keeps, keeps_less, outside_part, used_less}
-use Rattle.building.specs.Builds.{Nearest, PutInto, PutsEntry}
+use Rattle.building.specs.Builds.{Nearest, PutsEntry}
 use Rattle.building.proofs.Ranged.{range_on, range_good}
 use Rattle.building.proofs.Slotted.{slots_set, seen_back, at_laid}
 

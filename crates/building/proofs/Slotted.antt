@@ -1,10 +1,10 @@
 -- Bytes that agree, and the slots that are read from them.
-use Rattle.std.proofs.Common.{◌≡◌, ℕ, zero, suc, ◌+◌, ◌-◌, ◌*◌, ◌/◌, ◌%◌, ◌^◌, ◌<◌, ◌≤◌, ◌≢◌, ◌⊎◌, List, [], ◌∷◌, ◌++◌, length, get_or, take, drop, set, replicate, sym, refl, ap, ◌∙◌, subst, inl, inr, ⊎_elim, arith}
+use Rattle.std.proofs.Common.{◌≡◌, ℕ, zero, suc, ◌+◌, ◌*◌, ◌^◌, ◌<◌, ◌≤◌, ◌⊎◌, List, [], ◌∷◌, ◌++◌, length, get_or, take, drop, set, replicate, sym, refl, ap, ◌∙◌, inl, inr, arith}
 use Rattle.std.proofs.lemmas.List.{length-drop, get_or-drop, length-take-le, take_at, drop_at}
 use Rattle.byte_lists.specs.Bytes.{word, word_at, part, laid}
 use Rattle.byte_lists.proofs.Parts.{At, at_both}
 use Rattle.byte_lists.proofs.Words.{word_read, word_in}
-use Rattle.cdb.specs.Tables.{Slot, blank, slot}
+use Rattle.cdb.specs.Tables.{Slot, blank}
 use Rattle.cdb.specs.Files.{slot_bytes, slots_at}
 use Rattle.cdb.proofs.Slots.{seen}
 

@@ -1,13 +1,13 @@
 -- Tables, then the header.
-use Rattle.std.proofs.Common.{◌≡◌, ℕ, zero, suc, ◌+◌, ◌-◌, ◌*◌, ◌/◌, ◌%◌, ◌^◌, ◌<◌, ◌≤◌, Bool, true, false, ◌⊎◌, List, [], ◌∷◌, ◌++◌, length, get_or, take, drop, sym, refl, ap, ◌∙◌, subst, inl, inr, ⊎_elim, arith}
-use Rattle.byte_lists.specs.Bytes.{part, word_at}
+use Rattle.std.proofs.Common.{◌≡◌, ℕ, ◌+◌, ◌*◌, ◌^◌, ◌<◌, ◌≤◌, List, length, sym, refl, ap, ◌∙◌, subst, inr, arith}
+use Rattle.byte_lists.specs.Bytes.{part}
 use Rattle.byte_lists.proofs.Parts.{At, part_long}
 use Rattle.byte_lists.proofs.Words.{word_in}
 use Rattle.faults.specs.declared.device.DeviceFault.{DeviceFault}
-use Rattle.device.specs.Meanings.{Meaning, Whole, is_bad}
+use Rattle.device.specs.Meanings.{Meaning, Whole}
 use Rattle.cdb.specs.Tables.{Slot, Fills}
 use Rattle.cdb.specs.Files.{position, slot_count, slots_at, slots_in}
-use Rattle.writing.specs.Runs.{Touches, Outside, Keeps, Completed, Interrupted}
+use Rattle.writing.specs.Runs.{Outside, Keeps, Completed, Interrupted}
 use Rattle.writing.proofs.Keeping.{completed_keeps, keeps_both, used_both}
 use Rattle.writing.proofs.Running.{bad_after}
 use Rattle.building.specs.declared.entries.Entry.{Entry}

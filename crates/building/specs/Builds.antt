@@ -1,5 +1,5 @@
 -- The steps of building tables on a device.
-use Rattle.std.specs.Prelude.{◌≡◌, ℕ, zero, suc, ◌+◌, ◌*◌, ◌<◌, ◌≤◌, Bool, true, false, List, [], ◌++◌, length, take, Ok, Err, sum, Result, slice_index}
+use Rattle.std.specs.Prelude.{◌≡◌, ℕ, zero, suc, ◌+◌, ◌*◌, ◌<◌, true, false, List, [], ◌++◌, length, take, Ok, Err, sum, Result, slice_index}
 use Rattle.byte_lists.specs.Bytes.{word, word_at}
 use Rattle.faults.specs.declared.device.DeviceFault.{DeviceFault}
 use Rattle.faults.specs.declared.device.DeviceFault.TheVariants.{Power}
@@ -8,7 +8,7 @@ use Rattle.cdb.specs.Tables.{Slot, Puts, Fills, slot_away}
 use Rattle.cdb.specs.Files.{slots_at}
 use Rattle.writing.specs.Runs.{Touches, Outside, Used, Keeps, Lost}
 use Rattle.building.specs.declared.entries.Entry.{Entry}
-use Rattle.building.specs.Entries.{slot_of, count_of, count_before, puts_into}
+use Rattle.building.specs.Entries.{count_of, count_before, puts_into}
 
 -- how many entries each table has
 pub record Counts (cs : List ℕ) (es : List Entry) : Type 0 where

@@ -1,5 +1,5 @@
 -- The audit and the lookup by number for the file of len bytes that some memory begins with.
-use Rattle.std.specs.Prelude.{◌≡◌, ℕ, ◌*◌, ◌<◌, ◌≤◌, true, List, take, Ok, Err, Option, Result}
+use Rattle.std.specs.Prelude.{◌≡◌, ℕ, ◌*◌, ◌≤◌, true, List, take, Ok, Err, Option, Result}
 use Rattle.faults.specs.declared.file.FileFault.{FileFault}
 use Rattle.faults.specs.declared.file.FileFault.TheVariants.{Range}
 use Rattle.device.specs.Meanings.{endless}

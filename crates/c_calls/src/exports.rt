@@ -1,12 +1,11 @@
-//! The calls for C. bench/constdb.h says what a C program may rely on.
+//! What the calls for C do; the crate `c_calls_c` exports them.
 
 ghost use Rattle.c_calls.specs.Exports.{AuditTold, FindTold};
 
 use crate::in_memory::{audit_in_memory, find_in_memory};
 
 /// Audits a file in memory: 0 and three counts, or the number of the refusal with its table and place.
-#[unsafe(no_mangle)]
-pub extern "C" fn constdb_audit(
+pub fn constdb_audit(
     memory: &[u8],
     len: u32,
     records: &mut u32,
@@ -35,8 +34,7 @@ pub extern "C" fn constdb_audit(
 
 /// Looks up the data of record `n` of a key: 0 and their place and length, both 0 where there are none, or the number of the
 /// refusal, with both as they were.
-#[unsafe(no_mangle)]
-pub extern "C" fn constdb_find(
+pub fn constdb_find(
     memory: &[u8],
     len: u32,
     key: &[u8],

@@ -1,5 +1,5 @@
 -- Pages while a sector below is marked.
-use Rattle.std.proofs.Common.{◌≡◌, ℕ, List, [], ◌∷◌, Some, None, Option, sym, subst}
+use Rattle.std.proofs.Common.{◌≡◌, ℕ, List, Some, None, Option, sym, subst}
 use Rattle.device.specs.Meanings.{Meaning}
 use Rattle.marks.specs.declared.fault.MarkFault.{MarkFault}
 use Rattle.marks.specs.Marks.{device_after}

@@ -1,5 +1,5 @@
 -- Pages that equal their sectors.
-use Rattle.std.proofs.Common.{◌≡◌, ℕ, ◌+◌, ◌*◌, ◌/◌, ◌%◌, ◌<◌, ◌≤◌, true, ◌≢◌, ◌⊎◌, List, length, set, is_ok, Some, None, Option, Result, sym, refl, ap, ◌∙◌, subst, ⊎_elim, arith, get_or-set_other, get_or-set_same}
+use Rattle.std.proofs.Common.{◌≡◌, ℕ, ◌+◌, ◌*◌, ◌/◌, ◌%◌, ◌<◌, ◌≤◌, true, ◌≢◌, List, length, set, is_ok, Some, None, Option, Result, sym, refl, ap, ◌∙◌, subst, ⊎_elim, arith, get_or-set_other, get_or-set_same}
 use Rattle.std.proofs.lemmas.Bool.{cases_eq, false≢true, and_from, lt-ltb, le-leb, cond-true}
 use Rattle.byte_lists.specs.Bytes.{part}
 use Rattle.byte_lists.proofs.Parts.{part_in}
@@ -7,7 +7,7 @@ use Rattle.faults.specs.declared.device.DeviceFault.{DeviceFault}
 use Rattle.faults.specs.declared.device.DeviceFault.TheVariants.{Range}
 use Rattle.device.specs.Meanings.{Meaning, within, refuses, refusal, answer, filled}
 use Rattle.cache.specs.declared.pages.Page.{Page}
-use Rattle.cache.specs.Pages.{page_at, page_of, page_for, EqualTo, AllEqual}
+use Rattle.cache.specs.Pages.{page_at, page_for, EqualTo, AllEqual}
 
 -- a piece of a page that equals its sector
 pub page_part :

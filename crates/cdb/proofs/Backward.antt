@@ -1,14 +1,13 @@
 -- A lawful table is a permitted filling: cut the circle at an empty slot, and put the items in slot order from there.
-use Rattle.std.proofs.Common.{◌≡◌, ℕ, zero, suc, ◌+◌, ◌-◌, ◌%◌, ◌<◌, ◌≤◌, Bool, true, false, cond, ltb, ◌⊎◌, List, [], ◌∷◌, ◌++◌, length, get_or, set, replicate, sum_by, count_by, sym, refl, ap, ◌∙◌, subst, inl, inr, ⊎_elim, add-zero, add_assoc, mod-lt, mod-eq_of_lt, arith}
+use Rattle.std.proofs.Common.{◌≡◌, ℕ, zero, suc, ◌+◌, ◌-◌, ◌%◌, ◌<◌, ◌≤◌, true, false, cond, ◌⊎◌, List, [], ◌∷◌, ◌++◌, length, get_or, set, replicate, count_by, sym, refl, ap, ◌∙◌, subst, inl, inr, ⊎_elim, add_assoc, mod-lt, mod-eq_of_lt, arith}
 use native.Mathlib.Nat.{mod-eq-sub-mod, mod-add-mod, add-mod_right}
 use Rattle.std.specs.List.{ContainsAt as Has, AllByRecursion as All}
-use Rattle.std.specs.List.Sorted.{IsPermutation}
 use Rattle.std.proofs.lemmas.List.{get_or_append_left, get_or_push, length_push, get_or-replicate, length-replicate, nil_from_length, get_or_default, ext_get_or}
-use Rattle.std.proofs.ByRecursion.{all-has, All-weaker, all_has_itself, has_append_left, has_push, has_push_cases, has_get_or}
+use Rattle.std.proofs.ByRecursion.{all-has, All-weaker, all_has_itself, has_push_cases, has_get_or}
 use Rattle.std.proofs.lemmas.List.Sums.{sum_by-cons, count_by-le-length}
-use Rattle.std.proofs.lemmas.Bool.{cond-true, cond-false, cases_Bool, cases_lt, cases_eq, cases_order, ltb-true, le-ltb}
-use Rattle.cdb.proofs.Pigeon.{Differ, pigeon, has_nil, has_head}
-use Rattle.cdb.proofs.Put.{spot_in, spot_length, spot_key, not_both, put_length, put_new, put_other}
+use Rattle.std.proofs.lemmas.Bool.{cond-true, cond-false, cases_Bool, cases_lt, cases_eq, cases_order, le-ltb}
+use Rattle.cdb.proofs.Pigeon.{Differ, pigeon, has_nil}
+use Rattle.cdb.proofs.Put.{spot_length, spot_key, not_both, put_new, put_other}
 use Rattle.cdb.proofs.Forward.{taken, Held, held, Pairs, all_positive, two, at_most_one}
 use Rattle.cdb.proofs.Owner.{owner}
 use Rattle.cdb.specs.Records.{Item, hash_of}

@@ -1,11 +1,11 @@
 -- The rules on a file are the rules table by table.
-use Rattle.std.proofs.Common.{◌≡◌, ℕ, zero, suc, ◌+◌, ◌-◌, ◌*◌, ◌%◌, ◌<◌, ◌≤◌, Bool, true, eqb, ◌⊎◌, List, length, sym, refl, ap, ◌∙◌, subst, inl, inr, ⊎_elim, mod-lt, arith}
-use Rattle.std.specs.List.{ContainsAt as Has, AllByRecursion as All}
+use Rattle.std.proofs.Common.{◌≡◌, ℕ, zero, suc, ◌+◌, ◌-◌, ◌<◌, ◌≤◌, Bool, eqb, List, length, sym, refl, ap, ◌∙◌, subst, mod-lt, arith}
+use Rattle.std.specs.List.{ContainsAt as Has}
 use Rattle.std.proofs.ByRecursion.{all-has, All-weaker, all_has_itself}
-use Rattle.std.proofs.lemmas.Bool.{eqb-true, eq-eqb, cases_eq, cases_lt}
+use Rattle.std.proofs.lemmas.Bool.{eqb-true, eq-eqb}
 use Rattle.cdb.specs.Records.{Record, Item, items, belonging, hash_of, table_of}
-use Rattle.cdb.specs.Tables.{Slot, slot, Empty, Distance}
-use Rattle.cdb.specs.Files.{position, slot_count, ends, slots_in, slots_of}
+use Rattle.cdb.specs.Tables.{Distance}
+use Rattle.cdb.specs.Files.{position, slot_count, ends, slots_in}
 use Rattle.cdb.specs.Rules.{Each, Rule2, Rule4, Rule8, Lawful}
 use Rattle.cdb.proofs.TableLaw.{LawfulTable, LawfulFile}
 use Rattle.cdb.proofs.Placement.{length_slots_at}

@@ -1,15 +1,14 @@
 -- Where there is room, every order fills a table.
-use Rattle.std.proofs.Common.{◌≡◌, ℕ, zero, suc, ◌+◌, ◌-◌, ◌%◌, ◌<◌, ◌≤◌, ◌⊎◌, List, [], ◌∷◌, ◌++◌, length, get_or, set, replicate, count_by, sym, refl, ap, ◌∙◌, subst, inl, inr, ⊎_elim, mod-lt, arith}
+use Rattle.std.proofs.Common.{◌≡◌, ℕ, zero, suc, ◌+◌, ◌<◌, List, [], ◌∷◌, ◌++◌, length, set, replicate, count_by, sym, refl, subst, ⊎_elim, mod-lt, arith}
 use Rattle.std.specs.List.{ContainsAt as Has}
 use Rattle.std.proofs.lemmas.List.{length_push, append_assoc, append-nil}
-use Rattle.std.proofs.ByRecursion.{has_push, has_append_left}
+use Rattle.std.proofs.ByRecursion.{has_append_left}
 use Rattle.std.proofs.lemmas.Bool.{cases_eq}
-use Rattle.cdb.proofs.Put.{not_both, put_length}
 use Rattle.cdb.proofs.Forward.{taken, empty_slot, held}
 use Rattle.cdb.proofs.Backward.{pos_all}
 use Rattle.cdb.specs.Records.{Item, hash_of}
 use Rattle.cdb.specs.Tables.{Slot, blank, entry, slot, Empty, Filled, home, spot}
-use Rattle.cdb.proofs.TableLaw.{probe, PutsItem, FillsItems, start, put}
+use Rattle.cdb.proofs.TableLaw.{PutsItem, FillsItems, start, put}
 
 -- the first empty slot from distance j on, if there is one at a distance j + n
 nearest : (s : List Slot) (x : Item) (n j : ℕ) → ((i : ℕ) → i < j → Filled s (spot s x i)) → j + n < length s → Empty s (spot s x (j + n)) → (t : List Slot) × PutsItem s x t

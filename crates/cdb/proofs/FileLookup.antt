@@ -1,5 +1,5 @@
 -- A lookup in a lawful file; the one reading of a file.
-use Rattle.std.proofs.Common.{◌≡◌, ℕ, zero, suc, ◌+◌, ◌-◌, ◌*◌, ◌%◌, ◌^◌, ◌<◌, ◌≤◌, Bool, true, false, cond, eqb, ◌⊎◌, List, [], ◌∷◌, ◌++◌, length, get_or, filter, sym, refl, ap, ◌∙◌, subst, inl, inr, ⊎_elim, mod-lt, arith}
+use Rattle.std.proofs.Common.{◌≡◌, ℕ, ◌+◌, ◌%◌, ◌<◌, Bool, true, false, cond, eqb, List, [], ◌∷◌, length, filter, sym, refl, ap, ◌∙◌, subst, ⊎_elim, mod-lt, arith}
 use Rattle.std.specs.Str.{bytes_eq}
 use Rattle.std.proofs.lemmas.Slice.Eq.{bytes_eq-Decides}
 use Rattle.std.proofs.lemmas.Bool.{cond-true, cond-false, cases_Bool, eq-eqb, both_ways}
@@ -8,7 +8,7 @@ use Rattle.cdb.proofs.FileProof.{belonging_in_file}
 use Rattle.cdb.specs.Records.{Item, hash_of}
 use Rattle.cdb.proofs.TableLaw.{Gives}
 use Rattle.cdb.specs.Records.{Record, size, items, belonging, table_of, Records}
-use Rattle.byte_lists.specs.Bytes.{part, word_at}
+use Rattle.byte_lists.specs.Bytes.{part}
 use Rattle.cdb.specs.Files.{position, slot_count, slots_at}
 use Rattle.cdb.proofs.TableLaw.{LawfulFile}
 

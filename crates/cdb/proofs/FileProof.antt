@@ -1,23 +1,22 @@
 -- A file is lawful exactly when permitted fillings give its bytes.
-use Rattle.std.proofs.Common.{◌≡◌, ℕ, zero, suc, ◌+◌, ◌-◌, ◌*◌, ◌%◌, ◌^◌, ◌<◌, ◌≤◌, Bool, eqb, ◌⊎◌, ◌↔◌, List, [], ◌∷◌, ◌++◌, length, get_or, filter, sym, refl, ap, ◌∙◌, subst, inl, inr, ⊎_elim, arith}
+use Rattle.std.proofs.Common.{◌≡◌, ℕ, zero, suc, ◌+◌, ◌-◌, ◌*◌, ◌%◌, ◌^◌, ◌<◌, ◌≤◌, eqb, ◌↔◌, List, [], ◌∷◌, ◌++◌, length, get_or, sym, refl, ap, ◌∙◌, subst, ⊎_elim, arith}
 use Rattle.std.specs.List.{ContainsAt as Has, flat_map, AllByRecursion as All}
 use Rattle.std.proofs.lemmas.List.{length-append}
 use Rattle.std.proofs.ByRecursion.{all-has, All-from_get_or, all_kept_by, has_shuffled}
 use Rattle.std.proofs.lemmas.List.Sorted.{IsPermutation-sym}
-use Rattle.std.proofs.lemmas.Bool.{cases_eq, cases_lt}
-use Rattle.cdb.proofs.Put.{not_both}
+use Rattle.std.proofs.lemmas.Bool.{cases_eq}
 use Rattle.cdb.proofs.Forward.{forward, held, all_positive}
 use Rattle.cdb.proofs.Backward.{backward}
 use Rattle.cdb.proofs.Lookup.{in_file_kept}
-use Rattle.byte_lists.proofs.Parts.{At, at_fits, at_both, at_join, at_whole, at_self}
+use Rattle.byte_lists.proofs.Parts.{At, at_both, at_join, at_whole, at_self}
 use Rattle.byte_lists.proofs.Words.{word_read, word_made}
 use Rattle.cdb.proofs.Placement.{length_table_bytes, length_slots_at, Small, slots_read, slots_made, records_made, records_read, items_small}
 use Rattle.cdb.specs.Records.{Item, hash_of}
-use Rattle.cdb.specs.Tables.{Slot, blank, entry, slot, Filled}
-use Rattle.cdb.proofs.TableLaw.{InFile, LawfulTable}
+use Rattle.cdb.specs.Tables.{Slot, blank, slot}
+use Rattle.cdb.proofs.TableLaw.{InFile}
 use Rattle.cdb.specs.Records.{Record, size, record_bytes, items, belonging}
 use Rattle.byte_lists.specs.Bytes.{Bytes, word, word_at}
-use Rattle.cdb.specs.Files.{slot_bytes, table_bytes, header, file_of, Made, position, slot_count, ends, slots_at, slots_in}
+use Rattle.cdb.specs.Files.{table_bytes, header, file_of, Made, position, slot_count, ends, slots_at, slots_in}
 use Rattle.cdb.specs.Rules.{Each, Rule2, Rule3}
 use Rattle.cdb.proofs.TableLaw.{FillingItems, LawfulFile}
 use Rattle.cdb.specs.Tables.{Filling}

@@ -1,16 +1,15 @@
 -- A permitted filling is lawful.
-use Rattle.std.proofs.Common.{◌≡◌, ℕ, zero, suc, ◌+◌, ◌-◌, ◌<◌, ◌≤◌, Bool, true, false, cond, eqb, ltb, ◌⊎◌, List, [], ◌∷◌, ◌++◌, length, get_or, take, drop, set, replicate, sum_by, count_by, sym, refl, ap, ◌∙◌, subst, inl, inr, ⊎_elim, arith, length-set}
+use Rattle.std.proofs.Common.{◌≡◌, ℕ, zero, suc, ◌+◌, ◌-◌, ◌<◌, ◌≤◌, Bool, true, cond, eqb, ltb, List, [], ◌∷◌, ◌++◌, length, get_or, take, drop, replicate, sum_by, count_by, sym, refl, ap, ◌∙◌, subst, ⊎_elim, arith}
 use Rattle.std.specs.List.{ContainsAt as Has, AllByRecursion as All}
-use Rattle.std.specs.List.Sorted.{IsPermutation}
 use Rattle.std.proofs.lemmas.List.{get_or_append_left, get_or_push, length_push, length-replicate, get_or-replicate, get_or_past, get_or-take, get_or-drop, length-take-le, length-drop}
-use Rattle.std.proofs.ByRecursion.{has_append_left, has_push, has_push_cases, has_get_or, all-has, has_shuffled, all_shuffled}
+use Rattle.std.proofs.ByRecursion.{has_append_left, has_push, has_push_cases, all-has, has_shuffled, all_shuffled}
 use Rattle.std.proofs.lemmas.List.Sums.{sum_by-cons, sum_by-take-drop, get_or-le-sum_by}
-use Rattle.std.proofs.lemmas.List.Sorted.{sum_by-IsPermutation, length_permutation, IsPermutation-sym}
-use Rattle.std.proofs.lemmas.Bool.{lt-ltb, cond-true, cond-false, cases_order, cases_Bool, cases_lt, cases_eq, eqb-true, eqb-false, eq-eqb, ltb-true, ltb-false, ne_eqb}
+use Rattle.std.proofs.lemmas.List.Sorted.{sum_by-IsPermutation, length_permutation}
+use Rattle.std.proofs.lemmas.Bool.{cond-true, cond-false, cases_Bool, cases_lt, cases_eq, eq-eqb, ltb-false, ne_eqb}
 use Rattle.cdb.proofs.Pigeon.{has_nil}
-use Rattle.cdb.proofs.Put.{spot_in, spot_length, spot_key, not_both, distance_one, put_length, put_new, put_other, put_old, put_keeps, put_stands, put_farther, put_count}
+use Rattle.cdb.proofs.Put.{not_both, distance_one, put_length, put_new, put_other, put_keeps, put_stands, put_farther, put_count}
 use Rattle.cdb.specs.Records.{Item}
-use Rattle.cdb.specs.Tables.{Slot, blank, entry, slot, Empty, Filled, home, spot, Permitted, Distance, Roomy}
+use Rattle.cdb.specs.Tables.{Slot, blank, entry, slot, Empty, Filled, spot, Permitted, Distance, Roomy}
 use Rattle.cdb.proofs.TableLaw.{PutsItem, FillsItems, start, put, InFile, LawfulTable}
 
 abbrev pub taken : Slot → Bool

@@ -1,18 +1,18 @@
 -- A lookup in a lawful table gives the items of its key, in file order.
-use Rattle.std.proofs.Common.{◌≡◌, ℕ, zero, suc, ◌+◌, ◌-◌, ◌%◌, ◌<◌, ◌≤◌, Bool, true, false, cond, ◌⊎◌, List, [], ◌∷◌, ◌++◌, length, get_or, filter, sym, refl, ap, ◌∙◌, subst, inl, inr, ⊎_elim, mod-lt, arith}
-use Rattle.std.specs.List.{ContainsAt as Has, AllByRecursion as All}
+use Rattle.std.proofs.Common.{◌≡◌, ℕ, zero, suc, ◌+◌, ◌-◌, ◌<◌, ◌≤◌, Bool, true, ◌⊎◌, List, [], ◌∷◌, length, filter, sym, ap, ◌∙◌, subst, inl, inr, ⊎_elim, mod-lt, arith}
+use Rattle.std.specs.List.{ContainsAt as Has}
 use Rattle.std.specs.Str.{bytes_eq}
-use Rattle.std.proofs.ByRecursion.{all-has, All-weaker, all_has_itself, all_kept_by, kept_by_passes}
+use Rattle.std.proofs.ByRecursion.{all-has, all_has_itself, all_kept_by, kept_by_passes}
 use Rattle.std.proofs.lemmas.Slice.Eq.{bytes_eq-Decides}
-use Rattle.std.proofs.lemmas.Bool.{cond-true, cond-false, cases_Bool, cases_lt, cases_eq}
+use Rattle.std.proofs.lemmas.Bool.{cond-true, cond-false, cases_Bool, cases_eq}
 use Rattle.cdb.proofs.Pigeon.{has_nil, has_head, has_tail, has_cons_cases}
-use Rattle.cdb.proofs.Put.{spot_key, not_both, distance_one}
+use Rattle.cdb.proofs.Put.{distance_one}
 use Rattle.cdb.proofs.Forward.{all_positive}
 use Rattle.cdb.proofs.Owner.{owner}
 use Rattle.cdb.proofs.Backward.{pos_one, same_item, above}
 use Rattle.cdb.specs.Records.{Item, hash_of}
-use Rattle.cdb.specs.Tables.{Slot, blank, entry, slot, Empty, Filled, home, spot, Distance}
-use Rattle.cdb.proofs.TableLaw.{probe, InFile, LawfulTable, Hit, Passed, Gives, none, next}
+use Rattle.cdb.specs.Tables.{Slot, entry, slot, Empty, Filled, home, spot, Distance}
+use Rattle.cdb.proofs.TableLaw.{probe, InFile, LawfulTable, Hit, Gives, none, next}
 
 in_file_lower : (p q : ℕ) (xs : List Item) → p ≤ q → InFile q xs → InFile p xs
 in_file_lower p q [] l f = tt

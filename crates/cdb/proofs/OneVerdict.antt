@@ -5,9 +5,8 @@ use Rattle.std.proofs.lemmas.Bool.{cases_lt}
 use Rattle.byte_lists.specs.Bytes.{word_at}
 use Rattle.faults.specs.Reports.{report}
 use Rattle.cdb.specs.Records.{Record, Records, Item, items, table_of, size}
-use Rattle.cdb.specs.Tables.{Distance}
-use Rattle.cdb.specs.Files.{position, slot_count, slots_of}
-use Rattle.cdb.specs.Rules.{First, FirstOf, Each, Rule1, Rule2, Rule3, Passes, Rule4, Rule5, Rule6, Clear, Rule7, Rule8, Lawful}
+use Rattle.cdb.specs.Files.{position, slot_count}
+use Rattle.cdb.specs.Rules.{First, FirstOf, Each, Rule1, Rule2, Rule3, Passes, Rule4, Rule5, Rule6, Clear, Rule7, Rule8}
 use Rattle.cdb.specs.Verdicts.{Verdict, accepted, refused, Probes, slots_below, Judged, broken_1, broken_2, broken_3, broken_4, broken_5, broken_6, broken_7, broken_8, keeps_all}
 use Rattle.cdb.specs.Theorems.{OneVerdict}
 use Rattle.cdb.proofs.FileLookup.{one_reading}

@@ -1,15 +1,14 @@
 -- Every filled slot of a lawful table holds an item, at that item's distance.
-use Rattle.std.proofs.Common.{◌≡◌, ℕ, zero, suc, ◌+◌, ◌-◌, ◌<◌, ◌≤◌, Bool, true, false, cond, ltb, ◌⊎◌, List, [], ◌∷◌, ◌++◌, length, get_or, sum_by, count_by, sym, refl, ap, ◌∙◌, subst, inl, inr, ⊎_elim, add-zero, add-suc, suc-add, arith}
+use Rattle.std.proofs.Common.{◌≡◌, ℕ, zero, suc, ◌+◌, ◌<◌, true, false, cond, ltb, List, [], ◌∷◌, length, count_by, sym, refl, ap, ◌∙◌, subst, ⊎_elim, add-zero, arith}
 use Rattle.std.specs.List.{ContainsAt as Has, AllByRecursion as All}
-use Rattle.std.specs.List.Sorted.{IsPermutation}
-use Rattle.std.proofs.ByRecursion.{all-has, All-weaker, all_has_itself, has_shuffled}
+use Rattle.std.proofs.ByRecursion.{All-weaker, all_has_itself, has_shuffled}
 use Rattle.std.proofs.lemmas.List.Sums.{sum_by-cons}
 use Rattle.std.proofs.lemmas.List.Sorted.{IsPermutation-sym}
-use Rattle.std.proofs.lemmas.Bool.{lt-ltb, cond-true, cond-false, cases_Bool, ltb-true, ltb-false}
+use Rattle.std.proofs.lemmas.Bool.{lt-ltb, cond-true, cond-false, cases_Bool}
 use Rattle.cdb.proofs.Pigeon.{Differ, pigeon, has_nil, has_head, has_tail, has_cons_cases}
 use Rattle.cdb.proofs.Forward.{taken}
 use Rattle.cdb.specs.Records.{Item}
-use Rattle.cdb.specs.Tables.{Slot, blank, entry, slot, Empty, Filled, spot, Distance}
+use Rattle.cdb.specs.Tables.{Slot, slot, Filled, spot, Distance}
 use Rattle.cdb.proofs.TableLaw.{InFile, LawfulTable}
 
 -- the numbers of the filled slots, of which the first is the slot b

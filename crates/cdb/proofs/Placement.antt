@@ -1,13 +1,12 @@
 -- Slots and records that stand at a place of a file.
-use Rattle.std.proofs.Common.{◌≡◌, ℕ, zero, suc, ◌+◌, ◌-◌, ◌*◌, ◌/◌, ◌%◌, ◌^◌, ◌<◌, ◌≤◌, min, ◌⊎◌, List, [], ◌∷◌, ◌++◌, length, get_or, take, drop, fold, sym, refl, ap, ◌∙◌, subst, inl, inr, ⊎_elim, add-zero, add_assoc, mod-lt, arith, take-add}
+use Rattle.std.proofs.Common.{◌≡◌, ℕ, zero, suc, ◌+◌, ◌*◌, ◌%◌, ◌^◌, ◌<◌, ◌≤◌, List, [], ◌∷◌, ◌++◌, length, fold, sym, refl, ap, ◌∙◌, subst, add-zero, mod-lt, arith}
 use lib.Bits.{bit_xor, xor_lt}
 use Rattle.std.specs.List.{flat_map, AllByRecursion as All}
-use Rattle.std.proofs.lemmas.List.{length-append, length-take, length-drop, length-take-le, take_at, drop_at, drop-drop, get_or-drop, get_or-take, take_all}
-use Rattle.std.proofs.ByRecursion.{All-get_or, All-take, All-drop}
+use Rattle.std.proofs.lemmas.List.{length-append}
 use Rattle.cdb.specs.Records.{Item, hash_of}
 use Rattle.cdb.specs.Tables.{Slot}
 use Rattle.cdb.specs.Records.{Record, size, record_bytes, Records, items}
-use Rattle.byte_lists.specs.Bytes.{Bytes, word, part, word_at}
+use Rattle.byte_lists.specs.Bytes.{Bytes, word, word_at}
 use Rattle.byte_lists.proofs.Parts.{At, at_both, at_join, at_bytes}
 use Rattle.byte_lists.proofs.Words.{word_read, word_made}
 use Rattle.cdb.specs.Files.{slot_bytes, table_bytes, slots_at}

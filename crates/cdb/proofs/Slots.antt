@@ -1,5 +1,5 @@
 -- The slots of a table, and the words that they are read from.
-use Rattle.std.proofs.Common.{◌≡◌, ℕ, zero, suc, ◌+◌, ◌*◌, ◌<◌, List, [], ◌∷◌, length, get_or, sym, refl, ap, ◌∙◌, subst, arith}
+use Rattle.std.proofs.Common.{◌≡◌, ℕ, zero, suc, ◌+◌, ◌*◌, ◌<◌, List, ap, ◌∙◌, arith}
 use Rattle.byte_lists.specs.Bytes.{word_at}
 use Rattle.cdb.specs.Tables.{Slot, slot}
 use Rattle.cdb.specs.Files.{slots_at}

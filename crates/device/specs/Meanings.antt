@@ -1,6 +1,6 @@
 -- What a device means, and what its calls answer.
 use Rattle.std.specs.Prelude.{◌≡◌, ℕ, ◌+◌, ◌-◌, ◌*◌, ◌/◌, ◌%◌, ◌<◌, ◌≤◌, Bool, true, false, cond, ◌&&◌, ◌⊎◌, List, length, Some, None, Ok, Err, Option, Result, ◌≢◌, nat_le, nat_lt, slice_index}
-use Rattle.byte_lists.specs.Bytes.{Bytes, part, laid}
+use Rattle.byte_lists.specs.Bytes.{Bytes, laid}
 use Rattle.faults.specs.declared.device.DeviceFault.{DeviceFault}
 use Rattle.faults.specs.declared.device.DeviceFault.TheVariants.{Range, Power, Bad}
 

@@ -9,6 +9,7 @@ use marks::fault::MarkFault;
 use marks::layer::Marked;
 use memory::reading::ReadMemory;
 use std::process::Abort;
+use std::test::Fail;
 
 /// Marks the sectors from one to another; each must be done.
 fn mark_up_to<D: Device>(device: &mut Marked<D>, from: u32, to: u32) -> Result<(), Fail>

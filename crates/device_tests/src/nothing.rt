@@ -6,6 +6,7 @@ use marks::fault::MarkFault;
 use memory::reading::ReadMemory;
 use memory::writing::{Budget, RootTear, WriteMemory};
 use stacks::{cache_over_marks, marks_over_cache};
+use std::test::Fail;
 
 const ASKS: [Ask; 3] = [
     Ask::State(0, RANGE),

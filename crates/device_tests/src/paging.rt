@@ -7,6 +7,7 @@ use faults::device::DeviceFault;
 use marks::layer::Marked;
 use memory::writing::{Budget, RootTear, WriteMemory};
 use std::process::Abort;
+use std::test::Fail;
 
 /// What is asked of a cache over 24 sectors, each of which is made of its own number; so many reads must reach the device below.
 fn expect_reads(rt: &impl Abort, asks: &[Ask], reads: u32) -> Result<(), Fail> {

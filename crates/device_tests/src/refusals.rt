@@ -7,6 +7,7 @@ use faults::device::DeviceFault;
 use marks::layer::Marked;
 use memory::writing::{Budget, RootTear, WriteMemory};
 use std::process::Abort;
+use std::test::Fail;
 
 const BAD: Answer = Err(DeviceFault::Bad(1024));
 

@@ -4,6 +4,7 @@ use crate::asks::*;
 use faults::device::DeviceFault;
 use memory::writing::{Budget, RootTear};
 use stacks::{cache_over_marks, marks_over_cache};
+use std::test::Fail;
 
 /// A torn write of five bytes, and what is refused until power returns.
 const CUT: [Ask; 2] = [Ask::Write(1024, 5, 9, POWER), Ask::Read(1024, 1, POWER)];

@@ -4,6 +4,7 @@ use crate::asks::*;
 use byte_lists::slices::equal;
 use memory::writing::{Budget, RootTear, WriteMemory};
 use std::process::Abort;
+use std::test::Fail;
 
 /// Place and length of the pieces that are written in turn; piece `i` is made of bytes `10 + i`.
 const PIECES: [(u32, u32); 6] = [(0, 512), (3, 7), (512, 7), (1029, 10), (1535, 1), (511, 1)];

@@ -1,5 +1,5 @@
 -- Faults to which a place was added.
-use Rattle.std.proofs.Common.{◌≡◌, ℕ, ◌<◌, Ok, Err, Result, refl, arith}
+use Rattle.std.proofs.Common.{◌≡◌, ℕ, Ok, Err, Result, refl, arith}
 use Rattle.std.specs.Result.{result_map_both}
 use Rattle.faults.specs.declared.file.Located.{Located}
 use Rattle.faults.specs.Reports.{located}

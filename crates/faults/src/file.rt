@@ -2,7 +2,7 @@
 
 ghost use Rattle.std.specs.Prelude.{◌≡◌};
 ghost use Rattle.std.specs.Result.{result_map_both};
-ghost use Rattle.faults.specs.declared.file.FileFault.TheVariants.{Device as by-device};
+ghost use Rattle.faults.specs.declared.file.FileFault.TheVariants.{Device as by_device};
 ghost use Rattle.faults.specs.Reports.{file_report, located};
 
 use crate::device::DeviceFault;
@@ -126,7 +126,7 @@ pub fn add_place<T, F>(r: Result<T, F>, in_table: u32, at_place: u64) -> Result<
 }
 
 impl From<Located<DeviceFault>> for FileFault {
-    ghost from_gives = { λ x y. y ≡ by-device x };
+    ghost from_gives = { λ x y. y ≡ by_device x };
 
     fn from(value: Located<DeviceFault>) -> FileFault {
         FileFault::Device(value)

@@ -1,6 +1,5 @@
 -- A readable file, sector by sector and byte by byte.
-use Rattle.std.proofs.Common.{◌≡◌, ℕ, ◌+◌, ◌-◌, ◌*◌, ◌/◌, ◌%◌, ◌<◌, ◌≤◌, Bool, true, false, ◌⊎◌, List, ◌++◌, length, take, drop, Some, None, Ok, Err, Option, Result, sym, refl, ap, ◌∙◌, subst, inl, inr, ⊎_elim, arith}
-use mathlib.Core.Bool.{false≢true}
+use Rattle.std.proofs.Common.{◌≡◌, ℕ, ◌+◌, ◌-◌, ◌*◌, ◌/◌, ◌<◌, ◌≤◌, List, ◌++◌, length, take, drop, Some, None, Ok, Err, Option, Result, sym, ap, ◌∙◌, subst, ⊎_elim, arith}
 use borrow.Rule.Slice.PartMut.{post_of}
 use Rattle.std.proofs.lemmas.List.{length-take-le, length-drop, length-append}
 use Rattle.std.proofs.lemmas.Bool.{cases_eq}
@@ -10,7 +9,7 @@ use Rattle.faults.specs.declared.device.DeviceFault.{DeviceFault}
 use Rattle.device.specs.Meanings.{Meaning, Whole, refuses}
 use Rattle.file.specs.declared.extents.Extent.{Extent}
 use Rattle.file.specs.Ranges.{Reads, AllRead, FirstBad, SectorsRead, FirstSector, Fetched}
-use Rattle.file.specs.Extents.{On, file, Readable, Ready}
+use Rattle.file.specs.Extents.{file, Readable, Ready}
 use Rattle.file.proofs.Turns.{holds_all}
 
 pub some_none : (o : Option DeviceFault) (f : DeviceFault) → o ≡ None → o ≡ Some f → ⊥

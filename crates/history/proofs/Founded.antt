@@ -1,30 +1,27 @@
 -- A format makes the file without records live.
-use Rattle.std.proofs.Common.{◌≡◌, ℕ, ◌+◌, ◌-◌, ◌*◌, ◌/◌, ◌^◌, ◌<◌, ◌≤◌, List, [], ◌∷◌, ◌++◌, length, get_or, replicate, Ok, sym, refl, ap, ◌∙◌, subst, inl, inr, ⊎_elim, arith}
-use Rattle.std.specs.List.{AllByRecursion as All}
+use Rattle.std.proofs.Common.{◌≡◌, ℕ, ◌+◌, ◌<◌, ◌≤◌, List, [], ◌++◌, length, get_or, replicate, Ok, sym, refl, subst, inr, ⊎_elim, arith}
 use Rattle.std.proofs.lemmas.List.{length-replicate, get_or-replicate, get_or_past}
 use Rattle.std.proofs.lemmas.List.Sorted.{IsPermutation-refl}
 use Rattle.std.proofs.lemmas.Bool.{cases_lt}
-use Rattle.byte_lists.specs.Bytes.{Bytes, part, laid}
+use Rattle.byte_lists.specs.Bytes.{Bytes, part}
 use Rattle.byte_lists.proofs.Parts.{At, at_both, part_bytes}
 use Rattle.device.specs.Meanings.{Meaning, Whole}
-use Rattle.cdb.specs.Records.{Record, Item, belonging}
+use Rattle.cdb.specs.Records.{belonging}
 use Rattle.cdb.specs.Tables.{Slot, Filling, start}
-use Rattle.cdb.specs.Files.{file_of, Made}
+use Rattle.cdb.specs.Files.{Made}
 use Rattle.cdb.specs.Rules.{Lawful}
 use Rattle.cdb.proofs.Exactly.{lawful_exactly}
 use Rattle.building.specs.Empty.{empty_file}
 use Rattle.building.proofs.Emptied.{empty_long}
 use Rattle.building.proofs.Slotted.{at_laid}
 use Rattle.areas.specs.declared.area.Area.TheVariants.{Zero}
-use Rattle.areas.specs.Geometry.{area_size}
 use Rattle.areas.proofs.Rooted.{root_long}
 use Rattle.shelf.specs.declared.states.Shelf.{Shelf}
-use Rattle.shelf.specs.States.{Live, live_of}
+use Rattle.shelf.specs.States.{Live}
 use Rattle.shelf.specs.Formats.{new_root, Formats}
 use Rattle.history.specs.declared.calls.State.TheVariants.{Idle}
 use Rattle.history.specs.Events.{none}
-use Rattle.history.specs.Laws.{Rooted, live_file}
-use Rattle.history.proofs.Keeping.{Good, Sound}
+use Rattle.history.proofs.Keeping.{Sound}
 
 no_slots : (i : ℕ) → get_or {A = List Slot} (replicate 256 []) i [] ≡ []
 no_slots i =

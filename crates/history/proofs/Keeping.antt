@@ -1,7 +1,6 @@
 -- Every call of a history keeps what is published.
-use Rattle.std.proofs.Common.{◌≡◌, ℕ, ◌+◌, ◌-◌, ◌*◌, ◌/◌, ◌^◌, ◌<◌, ◌≤◌, Bool, true, false, cond, ◌⊎◌, List, [], ◌∷◌, ◌++◌, length, Some, None, Ok, Err, Option, sym, refl, ap, ◌∙◌, subst, inl, inr, ⊎_elim, arith}
+use Rattle.std.proofs.Common.{◌≡◌, ℕ, ◌≤◌, Bool, true, false, cond, List, [], ◌∷◌, ◌++◌, length, Some, None, Ok, Err, Option, sym, refl, ap, ◌∙◌, subst, inl, inr, ⊎_elim, arith}
 use mathlib.Core.Bool.{false≢true}
-use Rattle.byte_lists.specs.Bytes.{part}
 use Rattle.faults.specs.declared.device.DeviceFault.{DeviceFault}
 use Rattle.faults.specs.declared.device.DeviceFault.TheVariants.{Range, Power, Bad}
 use Rattle.faults.specs.declared.file.FileFault.{FileFault}
@@ -21,8 +20,7 @@ use Rattle.shelf.specs.declared.states.Finished.{Finished}
 use Rattle.shelf.specs.declared.refusals.AddRefused.{AddRefused}
 use Rattle.shelf.specs.declared.refusals.FinishRefused.{FinishRefused}
 use Rattle.shelf.specs.declared.refusals.PublishRefused.{PublishRefused}
-use Rattle.shelf.specs.Reports.{at_root}
-use Rattle.shelf.specs.States.{Live, live_of, live_at_draft, live_at_finished, file_start, file_room, Begun}
+use Rattle.shelf.specs.States.{Live, live_of, file_start, file_room, Begun}
 use Rattle.shelf.specs.Opens.{Opens}
 use Rattle.shelf.specs.Adds.{AddStopped, Adds}
 use Rattle.shelf.specs.Finishes.{FinishStopped, Finishes}
@@ -33,9 +31,9 @@ use Rattle.shelf.proofs.Standing.{Stands, between_stands, add_stands, add_stoppe
 use Rattle.history.specs.declared.calls.State.{State}
 use Rattle.history.specs.declared.calls.State.TheVariants.{Idle, Adding, Ready, Ended}
 use Rattle.history.specs.declared.calls.Answer.{Answer}
-use Rattle.history.specs.declared.calls.Answer.TheVariants.{Done, Refused, Unfit}
-use Rattle.history.specs.Events.{Request, to_open, to_begin, to_add, to_finish, to_publish, to_abandon, Event, began, added, published, interrupted, other, event, Quiet, Published, none, begins, adds, publishes, new, former, others}
-use Rattle.history.specs.Histories.{On, here, elsewhere, back_to, Moves, Step, made, opened, open_refused, begun, record_added, add_refused, finished, finish_refused, draft_published, publish_refused, draft_abandoned, finished_abandoned, unfit, Remounts}
+use Rattle.history.specs.declared.calls.Answer.TheVariants.{Unfit}
+use Rattle.history.specs.Events.{Request, to_open, to_begin, to_add, to_finish, to_publish, to_abandon, Event, began, added, published, interrupted, other, event, Quiet, Published, begins, adds, publishes, new, former, others}
+use Rattle.history.specs.Histories.{here, elsewhere, back_to, Step, made, opened, open_refused, begun, record_added, add_refused, finished, finish_refused, draft_published, publish_refused, draft_abandoned, finished_abandoned, unfit, Remounts}
 use Rattle.history.specs.Laws.{Rooted, live_file, Tells}
 use Rattle.history.proofs.Living.{Same, same_bytes, same_device, long_same, rooted_same, inside_same, lawful_same}
 use Rattle.history.proofs.Switched.{Reads, finish_reads, root_stored, CutAtRoot, refused_publish, switched_rooted, switched_long, switched_lawful}

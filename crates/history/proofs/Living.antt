@@ -1,5 +1,5 @@
 -- The live file stays while nothing outside the draft's area changes.
-use Rattle.std.proofs.Common.{◌≡◌, ℕ, ◌+◌, ◌-◌, ◌*◌, ◌/◌, ◌<◌, ◌≤◌, ◌⊎◌, List, length, get_or, sym, refl, ap, ◌∙◌, subst, inl, inr, ⊎_elim, arith}
+use Rattle.std.proofs.Common.{◌≡◌, ℕ, ◌+◌, ◌*◌, ◌<◌, ◌≤◌, List, length, get_or, sym, ap, ◌∙◌, subst, inl, inr, arith}
 use Rattle.byte_lists.specs.Bytes.{part, laid}
 use Rattle.byte_lists.proofs.Laid.{past_laid, length_laid}
 use Rattle.device.specs.Meanings.{Meaning}
@@ -10,7 +10,6 @@ use Rattle.building.proofs.Slotted.{part_same, at_laid}
 use Rattle.areas.specs.declared.area.Area.{Area}
 use Rattle.areas.specs.declared.area.Area.TheVariants.{Zero, One}
 use Rattle.areas.specs.Geometry.{other, area_start, area_size, root_bytes}
-use Rattle.areas.specs.Roots.{LawfulRoot, Names}
 use Rattle.areas.proofs.Rooted.{root_long}
 use Rattle.shelf.specs.States.{Live, file_start, file_room}
 use Rattle.shelf.proofs.Inside.{Long, area_on}

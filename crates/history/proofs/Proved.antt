@@ -1,19 +1,15 @@
 -- The laws of histories, and of lookups along them.
-use Rattle.std.proofs.Common.{◌≡◌, ℕ, ◌+◌, ◌-◌, ◌*◌, ◌/◌, ◌<◌, ◌≤◌, Bool, true, false, cond, ◌⊎◌, List, [], ◌∷◌, ◌++◌, length, Some, None, Ok, Err, Option, sym, refl, ap, ◌∙◌, subst, inl, inr, ⊎_elim, arith, rules}
+use Rattle.std.proofs.Common.{◌≡◌, ℕ, ◌≤◌, Bool, true, false, cond, ◌⊎◌, List, Some, None, Err, sym, refl, ap, ◌∙◌, subst, inl, inr, arith, rules}
 use Rattle.byte_lists.specs.Bytes.{part}
 use Rattle.faults.specs.declared.device.DeviceFault.{DeviceFault}
 use Rattle.faults.specs.declared.device.DeviceFault.TheVariants.{Range, Power, Bad}
-use Rattle.faults.specs.declared.file.FileFault.{FileFault}
-use Rattle.device.specs.Meanings.{Meaning, Whole, is_bad, refuses, refusal}
-use Rattle.cdb.specs.Records.{Record}
+use Rattle.device.specs.Meanings.{Meaning, is_bad, refuses, refusal}
 use Rattle.cdb.specs.Rules.{Lawful}
 use Rattle.file.specs.declared.extents.Extent.{Extent}
-use Rattle.file.specs.Extents.{Readable, file}
+use Rattle.file.specs.Extents.{file}
 use Rattle.lookup.specs.declared.cursors.Cursor.{Cursor}
-use Rattle.lookup.specs.Starts.{Start}
 use Rattle.lookup_runs.specs.declared.calls.Call as calls
 use Rattle.lookup_runs.specs.Runs as runs
-use Rattle.lookup_runs.specs.Laws.{Gives, wrote}
 use Rattle.lookup_runs.proofs.Giving.{start_done, law_of_lookups, run_wrote}
 use Rattle.areas.specs.Geometry.{area_start}
 use Rattle.shelf.specs.declared.faults.ShelfFault.{ShelfFault}
@@ -23,13 +19,13 @@ use Rattle.shelf.specs.States.{Live, LiveExtent}
 use Rattle.shelf.specs.Opens.{Opens}
 use Rattle.history.specs.declared.calls.State.{State}
 use Rattle.history.specs.declared.calls.Answer.{Answer}
-use Rattle.history.specs.Events.{Request, Event, event, Quiet, Published}
-use Rattle.history.specs.Histories.{Step, Remounts, History, formatted, called, meanwhile, remounted}
-use Rattle.history.specs.Laws.{Rooted, live_file, KeepsPublished, HistoriesKeepPublished, OnlyPublicationsChangeLive, OpenFindsTheShelf}
+use Rattle.history.specs.Events.{Request, Event, event, Quiet}
+use Rattle.history.specs.Histories.{Step, History, formatted, called, meanwhile, remounted}
+use Rattle.history.specs.Laws.{Rooted, live_file, HistoriesKeepPublished, OnlyPublicationsChangeLive, OpenFindsTheShelf}
 use Rattle.history.specs.Lookups as lookups
 use Rattle.history.specs.Lookups.{Onward, still, moves, Along, none, onward, looks, LiveAt, GivesPublished, LookupsGivePublished}
-use Rattle.history.proofs.Living.{Same, same_bytes, same_device, same_both, long_same, rooted_same}
-use Rattle.history.proofs.Keeping.{Good, one_live, stays, Sound, step, meanwhile_sound, remounted_sound}
+use Rattle.history.proofs.Living.{Same, same_bytes, rooted_same}
+use Rattle.history.proofs.Keeping.{one_live, stays, Sound, step, meanwhile_sound, remounted_sound}
 use Rattle.history.proofs.Founded.{formatted_sound}
 
 -- every history is sound

@@ -1,28 +1,23 @@
 -- What a finish leaves to be published, and what a publication makes live.
-use Rattle.std.proofs.Common.{◌≡◌, ℕ, ◌+◌, ◌-◌, ◌*◌, ◌/◌, ◌^◌, ◌<◌, ◌≤◌, Bool, true, false, ◌⊎◌, List, length, Some, None, Ok, Err, Option, Result, sym, refl, ap, ◌∙◌, subst, inl, inr, ⊎_elim, arith}
-use Rattle.std.specs.List.{flat_map}
+use Rattle.std.proofs.Common.{◌≡◌, ℕ, ◌+◌, ◌*◌, ◌≤◌, ◌⊎◌, List, length, Some, None, Ok, Err, Option, sym, ap, ◌∙◌, subst, inl, inr, ⊎_elim, arith}
 use Rattle.std.proofs.lemmas.List.{length-take-le}
 use Rattle.byte_lists.specs.Bytes.{part, laid}
 use Rattle.faults.specs.declared.device.DeviceFault.{DeviceFault}
-use Rattle.faults.specs.declared.device.DeviceFault.TheVariants.{Range, Power, Bad}
-use Rattle.faults.specs.declared.file.FileFault.{FileFault}
+use Rattle.faults.specs.declared.device.DeviceFault.TheVariants.{Power}
 use Rattle.device.specs.Meanings.{Meaning, Writes, spent, refusal, Spends, WritesBy, Written}
-use Rattle.cdb.specs.Records.{Record, Records, record_bytes}
+use Rattle.cdb.specs.Records.{Record, Records}
 use Rattle.cdb.specs.Files.{position}
 use Rattle.cdb.specs.Rules.{Lawful}
 use Rattle.cdb.specs.Verdicts.{accepted, Judged}
 use Rattle.cdb.proofs.Placement.{records_read}
 use Rattle.cdb.proofs.FileLookup.{one_reading}
-use Rattle.file.specs.Extents.{Readable}
-use Rattle.auditing.specs.declared.audits.Counts.{Counts}
-use Rattle.auditing.specs.Audits.{Audited}
 use Rattle.auditing.proofs.Answering.{kept}
 use Rattle.writing.specs.Runs.{Completed}
 use Rattle.writing.proofs.Running.{piece_runs}
 use Rattle.building.specs.declared.entries.Entry.{Entry}
 use Rattle.building.specs.Entries.{Tabled}
 use Rattle.building.proofs.Counting.{below_none}
-use Rattle.areas.specs.Geometry.{other, area_start, area_size, root_bytes}
+use Rattle.areas.specs.Geometry.{other, area_start, area_size}
 use Rattle.areas.proofs.Rooted.{root_long}
 use Rattle.shelf.specs.declared.faults.ShelfFault.{ShelfFault}
 use Rattle.shelf.specs.declared.faults.ShelfFault.TheVariants.{File, Size, NoRoot, Entries, Full, Small}
@@ -30,9 +25,9 @@ use Rattle.shelf.specs.declared.states.Draft.{Draft}
 use Rattle.shelf.specs.declared.states.Finished.{Finished}
 use Rattle.shelf.specs.declared.refusals.PublishRefused.{PublishRefused}
 use Rattle.shelf.specs.Reports.{at_root}
-use Rattle.shelf.specs.States.{Live, live_at_draft, live_at_finished, file_start, file_room}
+use Rattle.shelf.specs.States.{Live, live_at_draft, live_at_finished, file_start}
 use Rattle.shelf.specs.Finishes.{entries_of, Finishes}
-use Rattle.shelf.specs.Publishes.{live_after, next_root, DraftAudited, Accepted, PublishStopped, Publishes}
+use Rattle.shelf.specs.Publishes.{live_after, next_root, Accepted, PublishStopped, Publishes}
 use Rattle.shelf.specs.Drafts.{finished_file}
 use Rattle.shelf.proofs.Inside.{Long, area_on}
 use Rattle.shelf.proofs.Standing.{end, Stands, finish_stands}

@@ -1,5 +1,5 @@
 -- What calls ask for, what happened at them, and what is published then.
-use Rattle.std.specs.Prelude.{◌≡◌, ℕ, Bool, true, false, cond, List, [], ◌∷◌, ◌++◌}
+use Rattle.std.specs.Prelude.{Bool, true, false, cond, List, [], ◌∷◌, ◌++◌}
 use Rattle.cdb.specs.Records.{Record}
 use Rattle.shelf.specs.Publishes.{ends_draft}
 use Rattle.history.specs.declared.calls.State.{State}

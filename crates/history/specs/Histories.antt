@@ -1,5 +1,5 @@
 -- Histories of a shelf: a format that is done, then calls, and what becomes of the device between them.
-use Rattle.std.specs.Prelude.{◌≡◌, ℕ, false, List, [], ◌∷◌, ◌++◌, Some, None, Ok, Err, Option, ◌≢◌}
+use Rattle.std.specs.Prelude.{◌≡◌, false, List, [], ◌∷◌, ◌++◌, Some, None, Ok, Err, Option, ◌≢◌}
 use Rattle.device.specs.Meanings.{Meaning, Whole}
 use Rattle.cdb.specs.Records.{Record}
 use Rattle.building.specs.declared.entries.Entry.{Entry}

@@ -1,5 +1,5 @@
 -- Each call has one answer: its definition's cases are told apart by tests, and each case has one answer.
-use Rattle.std.proofs.Common.{◌≡◌, ℕ, ◌+◌, ◌*◌, ◌/◌, ◌<◌, ◌≤◌, ◌⊎◌, List, ◌++◌, length, get_or, drop, Some, None, Ok, Err, Option, Result, sym, refl, ap, ◌∙◌, subst, inl, inr, ⊎_elim, arith}
+use Rattle.std.proofs.Common.{◌≡◌, ℕ, ◌+◌, ◌/◌, ◌<◌, ◌≤◌, ◌⊎◌, List, ◌++◌, length, drop, Some, None, Ok, Err, Option, Result, sym, refl, ap, ◌∙◌, subst, inl, inr, ⊎_elim, arith}
 use Rattle.std.proofs.lemmas.Bool.{cases_lt, cases_eq}
 use Rattle.byte_lists.specs.Bytes.{part}
 use Rattle.faults.specs.declared.device.DeviceFault.{DeviceFault}
@@ -9,7 +9,7 @@ use Rattle.faults.specs.Reports.{located}
 use Rattle.device.specs.Meanings.{Meaning, refuses}
 use Rattle.cdb.specs.Records.{hash_of, table_of}
 use Rattle.file.specs.declared.extents.Extent.{Extent}
-use Rattle.file.specs.Ranges.{Reads, AllRead, FirstBad}
+use Rattle.file.specs.Ranges.{AllRead, FirstBad}
 use Rattle.file.specs.Extents.{On, file}
 use Rattle.file.proofs.Readying.{some_none}
 use Rattle.lookup.specs.declared.cursors.Cursor.{Cursor}

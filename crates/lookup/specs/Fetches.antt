@@ -1,5 +1,5 @@
 -- What fetch answers, and what its buffer holds then.
-use Rattle.std.specs.Prelude.{◌≡◌, ℕ, ◌+◌, ◌≤◌, List, ◌++◌, length, drop, Ok, Err, Result}
+use Rattle.std.specs.Prelude.{ℕ, ◌+◌, ◌≤◌, List, ◌++◌, length, drop, Ok, Err, Result}
 use Rattle.byte_lists.specs.Bytes.{part}
 use Rattle.faults.specs.declared.device.DeviceFault.{DeviceFault}
 use Rattle.faults.specs.declared.file.FileFault.{FileFault}

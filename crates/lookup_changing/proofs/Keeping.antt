@@ -1,5 +1,5 @@
 -- A byte that flips outside a file leaves the file.
-use Rattle.std.proofs.Common.{◌≡◌, ℕ, ◌+◌, ◌-◌, ◌*◌, ◌/◌, ◌<◌, ◌≤◌, min, true, cond, ltb, ◌⊎◌, List, length, get_or, take, drop, set, sym, refl, ap, ◌∙◌, subst, inl, inr, ⊎_elim, arith}
+use Rattle.std.proofs.Common.{◌≡◌, ℕ, ◌+◌, ◌-◌, ◌*◌, ◌/◌, ◌<◌, ◌≤◌, min, true, ltb, ◌⊎◌, List, length, get_or, set, sym, refl, ap, ◌∙◌, subst, inl, inr, ⊎_elim, arith}
 use Rattle.std.proofs.lemmas.List.{length-set, get_or-set_other, get_or_default, same_lists}
 use Rattle.std.proofs.ByRecursion.{All-set}
 use Rattle.std.proofs.lemmas.Bool.{cases_lt, lt-ltb, cond-true, cond-false, le-ltb}
@@ -8,7 +8,6 @@ use Rattle.byte_lists.proofs.Parts.{get_d_part, length_part, part_of_front}
 use Rattle.device.specs.Meanings.{endless}
 use Rattle.memory.specs.Memories.{memory, fitting}
 use Rattle.file.specs.declared.extents.Extent.{Extent}
-use Rattle.file.specs.Extents.{Readable, file}
 use Rattle.lookup_runs.specs.Runs.{Keeps}
 use Rattle.lookup_changing.specs.Flips.{beside, flipped}
 

@@ -11,11 +11,11 @@ use Rattle.file.specs.Extents.{file, Readable}
 use Rattle.lookup.specs.declared.cursors.Cursor.{Cursor}
 use Rattle.lookup.specs.declared.cursors.Found.{Found}
 use Rattle.lookup.specs.Nexts.{Next}
-use Rattle.lookup.specs.Starts.{Start, fresh}
+use Rattle.lookup.specs.Starts.{fresh}
 use Rattle.lookup.proofs.One.{start_one, next_one}
 use Rattle.lookup_runs.specs.Datas.{datas}
 use Rattle.lookup_runs.proofs.Held.{Holding}
-use Rattle.lookup_runs.proofs.Walking.{data_of_item, head_of, tail_of, State}
+use Rattle.lookup_runs.proofs.Walking.{data_of_item, head_of, State}
 use Rattle.lookup_runs.proofs.Giving.{next_step, first, first_found, start_state, start_done}
 use Rattle.lookup_nth.specs.Nths as nths
 use Rattle.lookup_nth.specs.Nths.{numbered, NthFrom, Nth, OnlyNth}

@@ -1,5 +1,5 @@
 -- The law of lookups.
-use Rattle.std.proofs.Common.{◌≡◌, ℕ, zero, suc, ◌+◌, ◌-◌, ◌*◌, ◌/◌, ◌%◌, ◌<◌, ◌≤◌, Bool, true, false, cond, ◌⊎◌, List, [], ◌∷◌, ◌++◌, map, length, get_or, Some, None, Ok, Err, filter, Option, Result, sym, refl, ap, ◌∙◌, subst, inl, inr, ⊎_elim, mod-lt, arith}
+use Rattle.std.proofs.Common.{◌≡◌, ℕ, zero, suc, ◌+◌, ◌*◌, ◌<◌, ◌≤◌, Bool, true, false, List, [], ◌∷◌, ◌++◌, map, length, Some, None, Ok, Err, filter, Option, Result, sym, refl, ap, ◌∙◌, subst, inl, inr, ⊎_elim, mod-lt, arith}
 use Rattle.std.proofs.lemmas.List.{length-append}
 use Rattle.std.proofs.lemmas.Slice.Eq.{bytes_eq-Decides}
 use Rattle.std.proofs.lemmas.Bool.{cond-true, cond-false, cases_Bool}
@@ -11,14 +11,13 @@ use Rattle.faults.specs.declared.file.FileFault.{FileFault}
 use Rattle.faults.specs.declared.file.FileFault.TheVariants.{Range, OtherKey}
 use Rattle.device.specs.Meanings.{Meaning}
 use Rattle.cdb.specs.Records.{Record, Records, Item, items, size, hash_of, table_of}
-use Rattle.cdb.specs.Files.{position, slot_count}
+use Rattle.cdb.specs.Files.{position}
 use Rattle.cdb.specs.Rules.{Lawful}
 use Rattle.cdb.proofs.Pigeon.{has_nil, has_head, has_tail, has_cons_cases}
 use Rattle.cdb.proofs.TableLaw.{LawfulFile}
 use Rattle.cdb.proofs.ByTable.{by_table}
 use Rattle.cdb.proofs.FileLookup.{file_lookup}
 use Rattle.file.specs.declared.extents.Extent.{Extent}
-use Rattle.file.specs.Ranges.{FirstBad}
 use Rattle.file.specs.Extents.{On, Readable, file}
 use Rattle.lookup.specs.declared.cursors.Cursor.{Cursor}
 use Rattle.lookup.specs.declared.cursors.Found.{Found}

@@ -1,12 +1,12 @@
 -- A file that a device holds, read on the device.
-use Rattle.std.proofs.Common.{◌≡◌, ℕ, zero, suc, ◌+◌, ◌-◌, ◌*◌, ◌/◌, ◌%◌, ◌<◌, ◌≤◌, min, Bool, true, false, ◌⊎◌, List, [], ◌∷◌, length, get_or, take, drop, Some, None, Ok, Err, Option, Result, sym, refl, ap, ◌∙◌, subst, inl, inr, ⊎_elim, arith, length-drop}
-use Rattle.std.proofs.lemmas.List.{length-take, same_lists, get_or_default}
+use Rattle.std.proofs.Common.{◌≡◌, ℕ, zero, suc, ◌+◌, ◌-◌, ◌*◌, ◌<◌, ◌≤◌, ◌⊎◌, List, [], ◌∷◌, length, get_or, Ok, Result, sym, refl, ap, ◌∙◌, subst, inl, inr, ⊎_elim, arith}
+use Rattle.std.proofs.lemmas.List.{same_lists, get_or_default}
 use Rattle.std.specs.List.{ContainsAt as Has}
 use Rattle.byte_lists.specs.Bytes.{part, word_at}
 use Rattle.byte_lists.proofs.Parts.{get_d_part, length_part}
 use Rattle.faults.specs.declared.device.DeviceFault.{DeviceFault}
 use Rattle.faults.specs.declared.file.FileFault.{FileFault}
-use Rattle.device.specs.Meanings.{Meaning, refuses}
+use Rattle.device.specs.Meanings.{Meaning}
 use Rattle.cdb.specs.Records.{Record, size, Item, items, Records}
 use Rattle.cdb.specs.Files.{position, slot_count}
 use Rattle.cdb.proofs.Pigeon.{has_nil, has_cons_cases}
@@ -17,7 +17,7 @@ use Rattle.file.specs.Extents.{Readable, file}
 use Rattle.file.proofs.Readying.{some_none}
 use Rattle.lookup.specs.declared.cursors.Probe.{Probe}
 use Rattle.lookup.specs.declared.cursors.Probe.TheVariants.{Other, Match}
-use Rattle.lookup.specs.Probes.{RecordProbe, words_past, words_bad, end_past, other_length, other_key, key_bad, same_key, data_of}
+use Rattle.lookup.specs.Probes.{RecordProbe, words_past, words_bad, end_past, other_length, other_key, key_bad, same_key}
 
 -- the device holds this file on the extent, and it can be read
 pub record Holding (whole : List ℕ) (e : Extent) (m : Meaning) : Type 0 where

@@ -1,11 +1,10 @@
 -- One call, and one more call of a run.
-use Rattle.std.proofs.Common.{◌≡◌, ℕ, zero, suc, ◌+◌, ◌-◌, ◌<◌, ◌≤◌, List, [], ◌∷◌, ◌++◌, length, get_or, take, drop, set, Some, None, Option, Result, sym, refl, ap, ◌∙◌, subst, arith, length-drop}
+use Rattle.std.proofs.Common.{◌≡◌, ℕ, zero, suc, ◌+◌, ◌-◌, ◌<◌, ◌≤◌, List, [], ◌∷◌, ◌++◌, length, get_or, take, drop, set, Some, None, Result, sym, refl, ap, ◌∙◌, subst, arith, length-drop}
 use Rattle.std.proofs.lemmas.List.{take_more, take_more_set, take_all, length-take-le}
 use Rattle.byte_lists.specs.Bytes.{part, laid}
 use Rattle.faults.specs.declared.file.FileFault.{FileFault}
 use Rattle.device.specs.Meanings.{Meaning}
 use Rattle.file.specs.declared.extents.Extent.{Extent}
-use Rattle.file.specs.Extents.{Readable}
 use Rattle.lookup.specs.declared.cursors.Cursor.{Cursor}
 use Rattle.lookup.specs.declared.cursors.Found.{Found}
 use Rattle.lookup.specs.Fetches.{Fetch}

@@ -1,13 +1,13 @@
 -- A walk in a lawful file that the device holds.
-use Rattle.std.proofs.Common.{◌≡◌, ℕ, zero, suc, ◌+◌, ◌-◌, ◌*◌, ◌/◌, ◌%◌, ◌<◌, ◌≤◌, ◌⊎◌, List, [], ◌∷◌, map, length, get_or, Some, None, Ok, Err, Option, Result, sym, refl, ap, ◌∙◌, subst, inl, inr, ⊎_elim, mod-lt, arith}
+use Rattle.std.proofs.Common.{◌≡◌, ℕ, ◌+◌, ◌*◌, ◌%◌, ◌<◌, ◌≤◌, ◌⊎◌, List, [], ◌∷◌, length, Some, None, Ok, Err, Option, Result, sym, refl, ap, ◌∙◌, subst, inl, inr, ⊎_elim, mod-lt, arith}
 use Rattle.std.specs.List.{ContainsAt as Has}
 use Rattle.std.proofs.ByRecursion.{all-has}
 use Rattle.std.proofs.lemmas.Bool.{cases_lt, cases_eq}
 use Rattle.byte_lists.specs.Bytes.{word_at}
 use Rattle.faults.specs.declared.file.FileFault.{FileFault}
 use Rattle.device.specs.Meanings.{Meaning}
-use Rattle.cdb.specs.Records.{Record, Item, hash_of, table_of, items, belonging}
-use Rattle.cdb.specs.Tables.{Slot, blank, entry, slot, Empty, Filled, slot_away}
+use Rattle.cdb.specs.Records.{Record, Item, hash_of, table_of, belonging}
+use Rattle.cdb.specs.Tables.{Slot, entry, slot, Empty, Filled, slot_away}
 use Rattle.cdb.specs.Files.{position, slot_count, slots_at}
 use Rattle.cdb.proofs.TableLaw.{probe, Hit, Passed, Gives, none, next, InFile, LawfulFile}
 use Rattle.cdb.proofs.Placement.{length_slots_at}

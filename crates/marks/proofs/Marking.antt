@@ -2,7 +2,7 @@
 use Rattle.std.proofs.Common.{◌≡◌, ℕ, ◌<◌, Bool, true, false, cond, ◌||◌, eqb, ltb, ◌⊎◌, List, [], ◌∷◌, ◌++◌, length, Some, None, Ok, Option, sym, refl, ap, ◌∙◌, inl, inr, ⊎_elim}
 use mathlib.Core.Path.{fun_ext}
 use Rattle.std.proofs.lemmas.Bool.{eqb-true, false≢true, cond-true, cond-false, lt-ltb}
-use Rattle.device.specs.Meanings.{Meaning, Condition, bad}
+use Rattle.device.specs.Meanings.{Meaning, Condition}
 use Rattle.marks.specs.Marks.{member, marked_condition, marked, mark_refusal, mark_answer, marks_after, device_after, Marking}
 use Rattle.marks.specs.declared.fault.MarkFault.{MarkFault}
 use Rattle.marks.specs.declared.fault.MarkFault.TheVariants.{Full}

@@ -1,4 +1,4 @@
--- What the bad_sector layer means, by the device below it.
+-- What the bad-sector layer means, by the device below it.
 use Rattle.std.specs.Prelude.{◌≡◌, ℕ, List}
 use Rattle.device.specs.Meanings.{Meaning}
 use Rattle.marks.specs.declared.layer.Marked.{Marked}

@@ -1,5 +1,5 @@
 -- What memory for writing does with a write: one result for every call.
-use Rattle.std.specs.Prelude.{ℕ, ◌/◌, false, cond, List, [], length, take, Some, None, Ok, Err, Option, Result, nat_lt}
+use Rattle.std.specs.Prelude.{ℕ, ◌/◌, false, cond, List, length, take, Some, None, Ok, Err, Option, Result, nat_lt}
 use Rattle.byte_lists.specs.Bytes.{laid}
 use Rattle.faults.specs.declared.device.DeviceFault.{DeviceFault}
 use Rattle.faults.specs.declared.device.DeviceFault.TheVariants.{Power}

@@ -1,14 +1,14 @@
 -- A lent list that is filled with records.
-use Rattle.std.proofs.Common.{◌≡◌, ℕ, ◌+◌, ◌<◌, ◌≤◌, min, ◌⊎◌, List, [], ◌∷◌, ◌++◌, map, length, take, drop, set, Ok, Err, Result, sym, refl, ap, ◌∙◌, subst, inl, inr, ⊎_elim, arith}
+use Rattle.std.proofs.Common.{◌≡◌, ℕ, ◌+◌, ◌<◌, ◌≤◌, min, List, [], ◌∷◌, ◌++◌, map, length, take, drop, set, Ok, Err, Result, sym, refl, ap, ◌∙◌, subst, ⊎_elim, arith}
 use Rattle.std.proofs.lemmas.Bool.{cases_lt}
 use Rattle.std.proofs.lemmas.List.{take_more_set, map_push, drop-set-lt, length-set, length-map, length-append, length-take-le, drop-drop, take_at}
 use Rattle.faults.specs.declared.file.FileFault.{FileFault}
 use Rattle.cdb.specs.Records.{Record, Records, size}
 use Rattle.cdb.specs.Files.{position}
 use Rattle.records.specs.declared.placed.PlacedRecord.{PlacedRecord}
-use Rattle.cdb.specs.Rules.{Rule1, Lawful}
-use Rattle.records.specs.Readings.{TableInside, HeaderBroken, Passing, Placed, record_of, Breaks, Fills}
-use Rattle.records.specs.Laws.{FilledFrom, FillsInOrder}
+use Rattle.cdb.specs.Rules.{Rule1}
+use Rattle.records.specs.Readings.{TableInside, Passing, Placed, record_of, Fills}
+use Rattle.records.specs.Laws.{FillsInOrder}
 use Rattle.records.proofs.Walks.{joined, rest}
 use Rattle.records.proofs.Proved.{same_record, keeps, headed, no_passing}
 

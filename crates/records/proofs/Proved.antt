@@ -1,18 +1,18 @@
 -- The laws of the record reader.
-use Rattle.std.proofs.Common.{◌≡◌, ℕ, ◌+◌, ◌<◌, ◌≤◌, ◌⊎◌, List, [], ◌∷◌, ◌++◌, map, length, Some, None, Ok, Err, Option, Result, sym, refl, ap, ◌∙◌, subst, inl, inr, ⊎_elim, arith}
+use Rattle.std.proofs.Common.{◌≡◌, ℕ, ◌+◌, ◌<◌, List, [], ◌∷◌, ◌++◌, map, length, Some, None, Ok, Err, Option, Result, sym, refl, ap, subst, ⊎_elim, arith}
 use Rattle.faults.specs.declared.file.FileFault.{FileFault}
 use Rattle.faults.specs.declared.file.FileFault.TheVariants as fault
 use Rattle.faults.specs.Reports.{file_report}
 use Rattle.cdb.specs.Records.{Record, Records, size}
 use Rattle.cdb.specs.Files.{position}
-use Rattle.cdb.specs.Rules.{Each, First, Rule1, Rule2, Lawful}
+use Rattle.cdb.specs.Rules.{Each, Rule1, Rule2, Lawful}
 use Rattle.cdb.specs.Verdicts as verdicts
 use Rattle.cdb.specs.Verdicts.{Judged, broken_1, broken_2, broken_3}
 use Rattle.cdb.proofs.FileLookup.{one_reading}
 use Rattle.records.specs.declared.placed.PlacedRecord.{PlacedRecord}
 use Rattle.records.specs.Readings.{TableInside, HeaderBroken, Passing, Placed, record_of, Hands}
 use Rattle.records.specs.Laws.{Calls, none, handed, ended, refused, HandsOutRecords, HandsOutInOrder, RefusesAsJudged, told, first}
-use Rattle.records.proofs.Walks.{joined, rest}
+use Rattle.records.proofs.Walks.{joined}
 
 -- what calls hand out from any place on
 from_any : (f : List ℕ) {p q : ℕ} {es : List PlacedRecord} → Calls f p es q → Records f p q (map record_of es) × Placed p es

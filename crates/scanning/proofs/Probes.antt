@@ -1,5 +1,5 @@
 -- Probing a table.
-use Rattle.std.proofs.Common.{◌≡◌, ℕ, ◌+◌, ◌-◌, ◌/◌, ◌%◌, ◌<◌, ◌≤◌, ◌⊎◌, List, sym, ap, ◌∙◌, subst, ⊎_elim, mod-lt, arith}
+use Rattle.std.proofs.Common.{◌≡◌, ℕ, ◌+◌, ◌/◌, ◌%◌, ◌<◌, ◌≤◌, ◌⊎◌, List, sym, ap, ◌∙◌, subst, ⊎_elim, mod-lt, arith}
 use Rattle.std.proofs.lemmas.Bool.{cases_lt}
 use Rattle.cdb.specs.Records.{Item, hash_of}
 use Rattle.cdb.specs.Tables.{Slot, slot, spot, Distance}

@@ -1,10 +1,10 @@
 -- The file without records, then the root before it.
-use Rattle.std.proofs.Common.{◌≡◌, ℕ, ◌+◌, ◌-◌, ◌*◌, ◌/◌, ◌%◌, ◌<◌, ◌≤◌, Bool, true, false, ◌⊎◌, List, [], ◌∷◌, ◌++◌, length, take, drop, Ok, sym, refl, ap, ◌∙◌, subst, inl, inr, ⊎_elim, arith, take-add}
+use Rattle.std.proofs.Common.{◌≡◌, ℕ, ◌+◌, ◌*◌, ◌<◌, ◌≤◌, List, ◌++◌, length, take, drop, Ok, sym, ap, ◌∙◌, subst, ⊎_elim, arith, take-add}
 use Rattle.std.proofs.lemmas.List.{length-append, length-take-le, length-drop, append_assoc, take_at, drop_at, drop-drop}
 use Rattle.std.proofs.lemmas.Bool.{cases_lt}
 use Rattle.byte_lists.specs.Bytes.{laid}
-use Rattle.device.specs.Meanings.{Meaning, Whole, is_bad, Written}
-use Rattle.writing.specs.Runs.{Touches, Completed}
+use Rattle.device.specs.Meanings.{Meaning, Whole, Written}
+use Rattle.writing.specs.Runs.{Completed}
 use Rattle.writing.proofs.Keeping.{used_both}
 use Rattle.writing.proofs.Running.{piece_runs, bad_after}
 use Rattle.building.specs.Empty.{empty_file}

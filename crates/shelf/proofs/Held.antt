@@ -1,25 +1,20 @@
 -- The entries of a draft are those of its records, and a finish from them makes a lawful file.
-use Rattle.std.proofs.Common.{◌≡◌, ℕ, zero, suc, ◌+◌, ◌-◌, ◌*◌, ◌^◌, ◌<◌, ◌≤◌, ◌⊎◌, List, [], ◌∷◌, ◌++◌, map, length, take, set, Ok, Err, sym, refl, ap, ◌∙◌, subst, inl, inr, ⊎_elim, arith}
+use Rattle.std.proofs.Common.{◌≡◌, ℕ, zero, suc, ◌+◌, ◌*◌, ◌<◌, ◌≤◌, List, [], ◌∷◌, ◌++◌, map, length, take, set, Ok, Err, sym, refl, ap, ◌∙◌, subst, arith}
 use Rattle.std.specs.List.{flat_map}
-use Rattle.std.proofs.lemmas.List.{length-append, length_push, length-set, length-take-le, map-append}
+use Rattle.std.proofs.lemmas.List.{length-append, length-take-le, map-append}
 use Rattle.byte_lists.specs.Bytes.{part}
-use Rattle.byte_lists.proofs.Parts.{part_in}
-use Rattle.device.specs.Meanings.{Meaning, Whole}
+use Rattle.device.specs.Meanings.{Meaning}
 use Rattle.cdb.specs.Records.{Record, Item, record_bytes, size, items, hash_of}
 use Rattle.cdb.specs.Tables.{Slot, entry}
 use Rattle.cdb.specs.Rules.{Lawful}
-use Rattle.writing.specs.Runs.{Outside}
 use Rattle.building.specs.declared.entries.Entry.{Entry}
 use Rattle.building.specs.Entries.{slot_of, Tabled}
 use Rattle.building.specs.Closes.{Closed}
-use Rattle.building.proofs.Slotted.{part_same}
 use Rattle.building.proofs.Made.{tabled_is_lawful}
 use Rattle.shelf.specs.declared.states.Draft.{Draft}
 use Rattle.shelf.specs.declared.states.Finished.{Finished}
-use Rattle.shelf.specs.declared.refusals.AddRefused.{AddRefused}
-use Rattle.shelf.specs.declared.refusals.FinishRefused.{FinishRefused}
-use Rattle.shelf.specs.States.{Live, live_at_draft, live_at_finished, file_start, file_room}
-use Rattle.shelf.specs.Adds.{next_place, entry_of, Adds}
+use Rattle.shelf.specs.States.{Live, live_at_draft, file_start}
+use Rattle.shelf.specs.Adds.{entry_of, Adds}
 use Rattle.shelf.specs.Finishes.{entries_of, Finishes}
 use Rattle.shelf.specs.Drafts.{Drafted, begun, meanwhile, added, add_refused, finish_refused, finished_file, FinishAfterAddsIsLawful}
 use Rattle.writing.proofs.Recorded.{record_long}

@@ -1,18 +1,18 @@
 -- Calls on a draft change nothing outside its area.
-use Rattle.std.proofs.Common.{◌≡◌, ℕ, ◌+◌, ◌-◌, ◌*◌, ◌/◌, ◌<◌, ◌≤◌, ◌⊎◌, List, length, take, Ok, Err, Result, sym, refl, ap, ◌∙◌, subst, inl, inr, ⊎_elim, arith}
+use Rattle.std.proofs.Common.{◌≡◌, ℕ, ◌+◌, ◌*◌, ◌/◌, ◌<◌, ◌≤◌, List, length, Ok, Err, Result, sym, ap, ◌∙◌, inl, inr, ⊎_elim, arith}
 use Rattle.std.proofs.lemmas.List.{length-take-le}
 use Rattle.faults.specs.declared.device.DeviceFault.{DeviceFault}
 use Rattle.faults.specs.declared.device.DeviceFault.TheVariants.{Range, Power, Bad}
 use Rattle.faults.specs.declared.file.FileFault.{FileFault}
 use Rattle.device.specs.Meanings.{Meaning}
 use Rattle.cdb.specs.Records.{Record, record_bytes, size}
-use Rattle.writing.specs.Runs.{Outside, Keeps, Completed, Interrupted}
+use Rattle.writing.specs.Runs.{Outside, Keeps, Interrupted}
 use Rattle.writing.proofs.Keeping.{keeps_same, keeps_both, keeps_less, outside_part, completed_keeps}
 use Rattle.building.specs.declared.entries.Entry.{Entry}
-use Rattle.building.specs.Closes.{Built, Closed, HeaderRefused, Closes}
+use Rattle.building.specs.Closes.{Closes}
 use Rattle.areas.specs.declared.area.Area.{Area}
 use Rattle.areas.specs.declared.area.Area.TheVariants.{Zero, One}
-use Rattle.areas.specs.Geometry.{half, other, first_sector, sectors_in, area_start, area_size}
+use Rattle.areas.specs.Geometry.{other, first_sector, sectors_in, area_start, area_size}
 use Rattle.shelf.specs.declared.faults.ShelfFault.{ShelfFault}
 use Rattle.shelf.specs.declared.faults.ShelfFault.TheVariants.{File, Size, NoRoot, Entries, Full, Small}
 use Rattle.shelf.specs.declared.states.Draft.{Draft}
@@ -21,7 +21,7 @@ use Rattle.shelf.specs.declared.refusals.AddRefused.{AddRefused}
 use Rattle.shelf.specs.declared.refusals.FinishRefused.{FinishRefused}
 use Rattle.shelf.specs.States.{live_at_draft, file_start, file_room}
 use Rattle.shelf.specs.Adds.{next_place, AddStopped, Adds}
-use Rattle.shelf.specs.Finishes.{entries_of, CloseStopped, FinishStopped, Finishes}
+use Rattle.shelf.specs.Finishes.{entries_of, FinishStopped, Finishes}
 use Rattle.writing.proofs.Recorded.{record_long}
 
 -- an area with sectors lies on the device

@@ -1,5 +1,5 @@
 -- The records of a draft stand in its file.
-use Rattle.std.proofs.Common.{◌≡◌, ℕ, ◌+◌, ◌-◌, ◌*◌, ◌/◌, ◌<◌, ◌≤◌, Bool, true, false, ◌⊎◌, List, [], ◌∷◌, ◌++◌, length, take, Ok, Err, Result, sym, refl, ap, ◌∙◌, subst, inl, inr, ⊎_elim, arith}
+use Rattle.std.proofs.Common.{◌≡◌, ℕ, ◌+◌, ◌*◌, ◌≤◌, true, ◌⊎◌, List, [], ◌∷◌, ◌++◌, length, Ok, Err, sym, refl, ap, ◌∙◌, subst, inl, inr, ⊎_elim, arith}
 use mathlib.Core.Bool.{false≢true}
 use Rattle.std.proofs.lemmas.List.{length-take-le, length-append, append_assoc, append-nil}
 use Rattle.std.specs.List.{flat_map}
@@ -13,18 +13,16 @@ use Rattle.cdb.specs.Records.{Record, record_bytes, size}
 use Rattle.writing.specs.Runs.{Outside, Keeps, Completed, Interrupted}
 use Rattle.writing.proofs.Keeping.{completed_keeps}
 use Rattle.building.specs.declared.entries.Entry.{Entry}
-use Rattle.building.specs.Closes.{Built, Closed, HeaderRefused, Closes}
+use Rattle.building.specs.Closes.{Built, Closed, Closes}
 use Rattle.building.proofs.Slotted.{part_same, at_laid}
 use Rattle.shelf.specs.declared.faults.ShelfFault.{ShelfFault}
 use Rattle.shelf.specs.declared.faults.ShelfFault.TheVariants.{File, Size, NoRoot, Entries, Full, Small}
 use Rattle.shelf.specs.declared.states.Shelf.{Shelf}
 use Rattle.shelf.specs.declared.states.Draft.{Draft}
 use Rattle.shelf.specs.declared.states.Finished.{Finished}
-use Rattle.shelf.specs.declared.refusals.AddRefused.{AddRefused}
-use Rattle.shelf.specs.declared.refusals.FinishRefused.{FinishRefused}
-use Rattle.shelf.specs.States.{Live, live_at_draft, file_start, file_room, Begun}
+use Rattle.shelf.specs.States.{Live, live_at_draft, file_start, Begun}
 use Rattle.shelf.specs.Adds.{next_place, AddStopped, Adds}
-use Rattle.shelf.specs.Finishes.{entries_of, CloseStopped, FinishStopped, Finishes}
+use Rattle.shelf.specs.Finishes.{entries_of, FinishStopped, Finishes}
 use Rattle.shelf.specs.Drafts.{Between}
 use Rattle.writing.proofs.Recorded.{record_long}
 use Rattle.shelf.proofs.Inside.{Long, long_after, on_device}

@@ -13,7 +13,7 @@ use Rattle.shelf.specs.declared.faults.ShelfFault.TheVariants.{File, Size, NoRoo
 use Rattle.shelf.specs.declared.states.Shelf.{Shelf}
 use Rattle.areas.specs.Geometry.{root_bytes}
 use Rattle.shelf.specs.Reports.{at_root}
-use Rattle.shelf.specs.States.{Live, live_of}
+use Rattle.shelf.specs.States.{live_of}
 
 -- the root of a new shelf: the file without records is live, in area 0
 abbrev pub new_root : List ℕ

@@ -1,7 +1,7 @@
 //! What a shelf refuses.
 
 ghost use Rattle.std.specs.Prelude.{◌≡◌};
-ghost use Rattle.shelf.specs.declared.faults.ShelfFault.TheVariants.{File as by-file};
+ghost use Rattle.shelf.specs.declared.faults.ShelfFault.TheVariants.{File as by_file};
 ghost use Rattle.shelf.specs.Reports.{shelf_report};
 
 use faults::file::{FileFault, Located};
@@ -61,7 +61,7 @@ impl ShelfFault {
 }
 
 impl From<Located<FileFault>> for ShelfFault {
-    ghost from_gives = { λ x y. y ≡ by-file x };
+    ghost from_gives = { λ x y. y ≡ by_file x };
 
     fn from(value: Located<FileFault>) -> ShelfFault {
         ShelfFault::File(value)

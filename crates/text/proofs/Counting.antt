@@ -1,6 +1,5 @@
 -- A text that is read from its start on.
-use Rattle.std.proofs.Common.{◌≡◌, ℕ, ◌+◌, ◌-◌, ◌<◌, ◌≤◌, List, [], ◌∷◌, ◌++◌, map, length, drop, Ok, Err, decimal, Result, sym, refl, ap, ◌∙◌, subst, arith, length-append}
-use Rattle.std.specs.List.{AllByRecursion as All}
+use Rattle.std.proofs.Common.{◌≡◌, ℕ, ◌+◌, ◌≤◌, List, [], ◌∷◌, ◌++◌, length, drop, Ok, Err, decimal, sym, refl, ap, ◌∙◌, subst, arith, length-append}
 use Rattle.std.proofs.lemmas.List.{length_push}
 use Rattle.std.proofs.ByRecursion.{All-push}
 use Rattle.cdb.specs.Records as cdb
@@ -9,7 +8,7 @@ use Rattle.text.specs.declared.fault.TextFault.TheVariants.{Malformed, Short, Lo
 use Rattle.text.specs.declared.lent.LentRecord.{LentRecord}
 use Rattle.text.specs.declared.token.Token.{Token}
 use Rattle.text.specs.declared.token.Token.TheVariants.{Record, End}
-use Rattle.text.specs.Texts.{line, text, Proper, TextOf, Refused}
+use Rattle.text.specs.Texts.{line, Proper, TextOf}
 use Rattle.text.specs.Readings.{lent, Hands}
 use Rattle.text.specs.Wholes.{bytes_in, Tallies}
 use Rattle.text.proofs.Rests.{lines, text_lines, whole_refused}

@@ -1,13 +1,13 @@
 -- A lent list that is filled with the records of a text.
-use Rattle.std.proofs.Common.{◌≡◌, ℕ, ◌+◌, ◌-◌, ◌<◌, ◌≤◌, List, [], ◌∷◌, ◌++◌, map, length, take, drop, set, Ok, Err, Result, sym, refl, ap, ◌∙◌, subst, arith}
+use Rattle.std.proofs.Common.{◌≡◌, ℕ, ◌+◌, ◌<◌, ◌≤◌, List, [], ◌∷◌, ◌++◌, map, length, take, drop, set, Ok, Err, Result, sym, refl, ap, ◌∙◌, subst, arith}
 use Rattle.std.specs.List.{AllByRecursion as All}
 use Rattle.std.proofs.lemmas.List.{take_more_set, map_push, drop-set-lt, length-set, length-map, length-take-le, drop-drop}
 use Rattle.cdb.specs.Records as cdb
 use Rattle.text.specs.declared.fault.TextFault.{TextFault}
 use Rattle.text.specs.declared.fault.TextFault.TheVariants.{Malformed, Short, Long}
 use Rattle.text.specs.declared.lent.LentRecord.{LentRecord}
-use Rattle.text.specs.declared.token.Token.TheVariants.{Record, End}
-use Rattle.text.specs.Texts.{line, text, Proper, TextOf, Text, Refused}
+use Rattle.text.specs.declared.token.Token.TheVariants.{Record}
+use Rattle.text.specs.Texts.{text, Proper, TextOf}
 use Rattle.text.specs.Readings.{lent, Hands}
 use Rattle.text.specs.Wholes.{Reads, GivesTheRecords}
 use Rattle.text.proofs.Rests.{different, same_line, lines, text_lines}

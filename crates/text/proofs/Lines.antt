@@ -1,13 +1,13 @@
 -- Lines before a text: what a state of the lexer has seen, and how it can go on.
-use Rattle.std.proofs.Common.{◌≡◌, ℕ, zero, suc, ◌+◌, ◌-◌, ◌*◌, ◌^◌, ◌<◌, ◌≤◌, ◌⊎◌, List, [], ◌∷◌, ◌++◌, length, take, drop, replicate, Some, None, decimal, sym, refl, ap, ◌∙◌, subst, inl, inr, ⊎_elim, append_assoc, append-nil, arith, length-append}
+use Rattle.std.proofs.Common.{◌≡◌, ℕ, ◌-◌, ◌^◌, ◌<◌, ◌⊎◌, List, [], ◌∷◌, ◌++◌, length, replicate, Some, None, decimal, sym, refl, ap, ◌∙◌, subst, inl, inr, ⊎_elim, append_assoc, append-nil, arith, length-append}
 use lib.ListN.{length-replicate}
 use Rattle.std.specs.List.{AllByRecursion as All}
 use Rattle.std.proofs.ByRecursion.{All-append, All-from_get_or}
 use Rattle.std.proofs.lemmas.List.{get_or-replicate}
 use Rattle.byte_lists.specs.Bytes.{Bytes}
 use Rattle.cdb.specs.Records as cdb
-use Rattle.text.specs.Texts.{line, text, Proper, TextOf, Text, Begins}
-use Rattle.text.specs.Lexing.{Digit, Fitting, Grows, Dead}
+use Rattle.text.specs.Texts.{line, text, Proper, Text, Begins}
+use Rattle.text.specs.Lexing.{Dead}
 use Rattle.text.specs.declared.state.State.{State}
 use Rattle.text.specs.declared.state.State.TheVariants.{Start, KeyLength, DataLength, Key, Arrow, Data, Record, End}
 use Rattle.text.proofs.Numbers.{heads, tails, never, ends, one_way, goes_on, first, digits}

@@ -1,5 +1,5 @@
 -- The laws of the text reader.
-use Rattle.std.proofs.Common.{◌≡◌, ℕ, ◌+◌, ◌-◌, ◌<◌, ◌≤◌, List, [], ◌∷◌, ◌++◌, map, length, drop, Some, None, Ok, Err, Option, Result, sym, refl, ap, ◌∙◌, subst, arith}
+use Rattle.std.proofs.Common.{◌≡◌, ℕ, ◌+◌, ◌-◌, ◌≤◌, List, [], ◌∷◌, ◌++◌, map, length, drop, Some, Ok, Err, Result, sym, refl, ap, ◌∙◌, subst, arith}
 use Rattle.std.specs.List.{AllByRecursion as All}
 use Rattle.cdb.specs.Records as cdb
 use Rattle.text.specs.declared.fault.TextFault.{TextFault}
@@ -8,7 +8,7 @@ use Rattle.text.specs.declared.lent.LentRecord.{LentRecord}
 use Rattle.text.specs.declared.token.Token.{Token}
 use Rattle.text.specs.declared.token.Token.TheVariants.{Record, End}
 use Rattle.text.specs.Texts.{line, text, Proper, TextOf, Refused}
-use Rattle.text.specs.Readings.{lent, Stops, Hands}
+use Rattle.text.specs.Readings.{lent, Hands}
 use Rattle.text.specs.Laws.{Calls, none, handed, ended, refused, told, first, ReadsInOrder, EndsWithItsRecords, RefusesTheWhole, OneAnswer}
 use Rattle.text.proofs.Rests.{different, same_line, lines, text_lines, whole_refused}
 

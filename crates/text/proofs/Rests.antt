@@ -1,10 +1,10 @@
 -- Lines before a text: what holds of the rest holds of the whole.
-use Rattle.std.proofs.Common.{◌≡◌, ℕ, ◌+◌, ◌-◌, ◌<◌, ◌≤◌, ◌⊎◌, List, [], ◌∷◌, ◌++◌, length, take, drop, sym, refl, ap, ◌∙◌, subst, inl, inr, ⊎_elim, append_assoc, arith, length-append, length-drop}
+use Rattle.std.proofs.Common.{◌≡◌, ℕ, ◌-◌, ◌<◌, ◌≤◌, List, [], ◌∷◌, ◌++◌, length, take, drop, sym, refl, ap, ◌∙◌, subst, ⊎_elim, append_assoc, arith, length-append, length-drop}
 use Rattle.std.specs.List.{AllByRecursion as All}
 use Rattle.std.proofs.lemmas.Bool.{cases_lt}
 use Rattle.std.proofs.lemmas.List.{take_at, take-append-drop}
 use Rattle.cdb.specs.Records.{Record}
-use Rattle.text.specs.Texts.{line, text, Proper, TextOf, Text, Begins, Refused}
+use Rattle.text.specs.Texts.{line, text, Proper, Text, Refused}
 use Rattle.text.proofs.Numbers.{heads}
 use Rattle.text.proofs.Lines.{rec, line_onto, one_line, closes, opens, Lined}
 

@@ -1,17 +1,15 @@
 -- The samples, from the definitions.
-use Rattle.std.proofs.Common.{◌≡◌, ℕ, ◌+◌, ◌-◌, ◌*◌, ◌^◌, ◌<◌, ◌≤◌, List, [], ◌∷◌, ◌++◌, Some, None, Ok, Err, codes, decimal, Result, sym, refl, ap, ◌∙◌, subst, arith, rules}
+use Rattle.std.proofs.Common.{◌≡◌, ℕ, List, [], ◌∷◌, ◌++◌, Some, Ok, Err, codes, Result, refl, ap, subst, arith, rules}
 use Rattle.std.specs.Fmt.{digits}
-use Rattle.byte_lists.specs.Bytes.{Bytes}
-use Rattle.text.specs.declared.state.State.{State}
-use Rattle.text.specs.declared.state.State.TheVariants.{Start, KeyLength, DataLength, Key, Arrow, Data, Record, End}
+use Rattle.text.specs.declared.state.State.TheVariants.{Start, KeyLength, End}
 use Rattle.text.specs.declared.fault.TextFault.{TextFault}
 use Rattle.text.specs.declared.fault.TextFault.TheVariants.{Malformed, Short, Long}
 use Rattle.text.specs.declared.tally.Tally.{Tally}
-use Rattle.text.specs.Texts.{line, text, Proper, TextOf, Text, Begins, Refused}
+use Rattle.text.specs.Texts.{TextOf, Begins, Refused}
 use Rattle.text.specs.Wholes.{Tallies}
 use Rattle.text.specs.Samples.{two_feeds, Samples}
-use Rattle.text.proofs.Lines.{front, Fit, alive}
-use Rattle.text.proofs.Turns.{Seen, stopped, ended}
+use Rattle.text.proofs.Lines.{alive}
+use Rattle.text.proofs.Turns.{stopped, ended}
 use Rattle.text.proofs.Rests.{whole_refused}
 use Rattle.text.proofs.Proved.{one_place}
 

@@ -1,6 +1,6 @@
 -- The scan's turns.
-use Rattle.std.proofs.Common.{◌≡◌, ℕ, ◌+◌, ◌-◌, ◌*◌, ◌^◌, ◌<◌, ◌≤◌, ◌⊎◌, List, [], ◌∷◌, ◌++◌, length, get_or, take, drop, Some, None, decimal, sym, refl, ap, ◌∙◌, subst, inl, inr, ⊎_elim, append_assoc, append-nil, arith, length-append, length-drop}
-use Rattle.std.proofs.lemmas.List.{take_at, drop_more, drop-drop, drop_at, take-append-drop, drop_all, length-take-le, take_all}
+use Rattle.std.proofs.Common.{◌≡◌, ℕ, ◌+◌, ◌-◌, ◌*◌, ◌^◌, ◌<◌, ◌≤◌, List, [], ◌∷◌, ◌++◌, length, get_or, take, drop, Some, None, decimal, sym, refl, ap, ◌∙◌, subst, ⊎_elim, append_assoc, arith, length-append, length-drop}
+use Rattle.std.proofs.lemmas.List.{take_at, drop_more, drop-drop, drop_at, take-append-drop, drop_all, length-take-le}
 use Rattle.std.proofs.ByRecursion.{All-drop}
 use Rattle.byte_lists.specs.Bytes.{Bytes, part}
 use Rattle.byte_lists.proofs.Parts.{part_bytes}

@@ -1,6 +1,5 @@
 -- Small texts, and where what is no text is refused.
 use Rattle.std.specs.Prelude.{ℕ, List, [], ◌∷◌, ◌++◌, codes}
-use Rattle.cdb.specs.Records.{Record}
 use Rattle.text.specs.Texts.{TextOf, Begins, Refused}
 
 -- the line feed that ends a line, and the one that ends the text

@@ -29,15 +29,19 @@ fn come_back<'a>(
     let mut buffer = [7u8; 600];
     assert_eq!(rt; write_text(&[first, middle, last], &mut buffer), Ok(557));
     assert_eq!(rt; buffer[557], 7);
-    let mut read = [BLANK; 4];
+    let blank = LentRecord {
+        key: b"",
+        data: b"",
+    };
+    let mut read = [blank; 4];
     assert_eq!(rt; read_records(&buffer[0..557], &mut read), Ok(3));
     assert_eq!(rt; read[0].key, first.key);
     assert_eq!(rt; read[0].data, first.data);
-    assert_eq!(rt; read[1].key, b"");
-    assert_eq!(rt; read[1].data, b"");
+    assert_eq!(rt; read[1].key, b"".as_slice());
+    assert_eq!(rt; read[1].data, b"".as_slice());
     assert_eq!(rt; read[2].key, last.key);
     assert_eq!(rt; read[2].data, last.data);
-    assert_eq!(rt; read[3].key, b"");
+    assert_eq!(rt; read[3].key, b"".as_slice());
 }
 
 #[test]
@@ -110,16 +114,16 @@ fn a_list_that_is_too_short_stays(rt: HostRuntime) {
         data: b"d",
     }];
     assert_eq!(rt; read_records(text, &mut one), Err(TextFault::Short(1)));
-    assert_eq!(rt; one[0].key, b"k");
+    assert_eq!(rt; one[0].key, b"k".as_slice());
     assert_eq!(rt;
         read_records(b"+1,1:a->1\n+1,2:b->22\n", &mut one),
         Err(TextFault::Malformed(21))
     );
-    assert_eq!(rt; one[0].data, b"d");
+    assert_eq!(rt; one[0].data, b"d".as_slice());
     let mut two = [BLANK; 2];
     assert_eq!(rt; read_records(text, &mut two), Ok(2));
-    assert_eq!(rt; two[0].key, b"a");
-    assert_eq!(rt; two[1].data, b"22");
+    assert_eq!(rt; two[0].key, b"a".as_slice());
+    assert_eq!(rt; two[1].data, b"22".as_slice());
 }
 
 #[test]

@@ -1,5 +1,5 @@
 -- What was read is written back, and what was written is read back.
-use Rattle.std.proofs.Common.{◌≡◌, ℕ, ◌+◌, ◌-◌, ◌<◌, ◌≤◌, List, [], ◌∷◌, ◌++◌, map, length, get_or, take, drop, Ok, Err, Result, sym, refl, ap, ◌∙◌, subst, append_assoc, arith, length-append}
+use Rattle.std.proofs.Common.{◌≡◌, ℕ, ◌+◌, ◌<◌, ◌≤◌, List, [], ◌∷◌, ◌++◌, map, length, get_or, take, drop, Ok, Err, Result, sym, refl, ap, ◌∙◌, subst, append_assoc, arith, length-append}
 use Rattle.std.specs.List.{flat_map, AllByRecursion as All}
 use Rattle.std.proofs.lemmas.List.{take_at, at_drop_more, at_drop_all, length-map, get_or-map, map_more, flat_map_more}
 use Rattle.std.proofs.ByRecursion.{All-get_or, All-push}
@@ -7,7 +7,7 @@ use Rattle.byte_lists.specs.Bytes.{laid}
 use Rattle.cdb.specs.Records.{Record}
 use Rattle.text.specs.declared.fault.TextFault.{TextFault}
 use Rattle.text.specs.declared.fault.TextFault.TheVariants.{Malformed, Short, Long}
-use Rattle.text.specs.Texts.{line, text, Proper, TextOf}
+use Rattle.text.specs.Texts.{line, text, Proper}
 use Rattle.text.specs.declared.lent.LentRecord.{LentRecord}
 use Rattle.text.specs.Readings.{lent}
 use Rattle.text.proofs.Filling.{gives}

@@ -1,8 +1,7 @@
 -- Pieces of text laid one behind the other, and digits from the last.
-use Rattle.std.proofs.Common.{◌≡◌, ℕ, ◌+◌, ◌-◌, ◌*◌, ◌/◌, ◌%◌, ◌^◌, ◌<◌, ◌≤◌, List, [], ◌∷◌, ◌++◌, length, get_or, take, drop, set, decimal, sym, refl, ap, ◌∙◌, subst, append_assoc, append-nil, arith, length-append, length-drop, rules}
+use Rattle.std.proofs.Common.{◌≡◌, ℕ, ◌+◌, ◌-◌, ◌/◌, ◌%◌, ◌^◌, ◌<◌, ◌≤◌, List, [], ◌∷◌, ◌++◌, length, get_or, take, drop, set, decimal, sym, refl, ap, ◌∙◌, append_assoc, append-nil, arith, length-append}
 use Rattle.std.proofs.lemmas.Fmt.{decimal_digit, decimal_step}
-use Rattle.std.proofs.lemmas.Slice.{overwrites}
-use Rattle.std.proofs.lemmas.List.{take_at, take-append-drop, drop_at, drop-drop, take_more, set_at, length-take-le, length_push, places, same_lists}
+use Rattle.std.proofs.lemmas.List.{take_at, take-append-drop, drop_at, drop-drop, take_more, set_at, length-take-le, length_push}
 use Rattle.byte_lists.specs.Bytes.{laid}
 use Rattle.cdb.specs.Records.{Record}
 use Rattle.text.specs.Texts.{line}

@@ -1,5 +1,5 @@
 -- The lines that tell an outcome.
-use Rattle.std.proofs.Common.{◌≡◌, ℕ, ◌+◌, ◌<◌, ◌≤◌, ◌⊎◌, List, [], ◌∷◌, ◌++◌, length, Ok, Err, codes, decimal, Result, sym, refl, ap, ◌∙◌, subst, inl, inr, append_assoc, arith, length-append}
+use Rattle.std.proofs.Common.{◌≡◌, ℕ, ◌+◌, ◌≤◌, List, [], ◌∷◌, ◌++◌, length, Ok, Err, codes, decimal, Result, refl, ap, ◌∙◌, inl, inr, append_assoc, arith, length-append}
 use Rattle.byte_lists.specs.Bytes.{laid}
 use Rattle.faults.specs.declared.report.Report.{Report}
 use Rattle.text.specs.declared.fault.TextFault.{TextFault}
@@ -7,8 +7,8 @@ use Rattle.text.specs.declared.fault.TextFault.TheVariants.{Malformed, Short, Lo
 use Rattle.text.specs.declared.tally.Tally.{Tally}
 use Rattle.text.specs.Reports.{text_report}
 use Rattle.text.specs.Wholes.{Tallies}
-use Rattle.text_writer.specs.Outcomes.{ok_line, no_line, LineOf, Lays, Checks}
-use Rattle.text_writer.proofs.Laying.{Upto, Piece, upto_none, upto_piece}
+use Rattle.text_writer.specs.Outcomes.{ok_line, no_line, Lays, Checks}
+use Rattle.text_writer.proofs.Laying.{Piece, upto_none, upto_piece}
 
 pub length_ok : (n b : ℕ) → length (ok_line n b) ≡ length (decimal n) + length (decimal b) + 5
 length_ok n b =

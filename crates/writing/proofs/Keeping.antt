@@ -1,6 +1,5 @@
 -- What stays through several runs, and the writes that they take.
-use Rattle.std.proofs.Common.{◌≡◌, ℕ, ◌+◌, ◌-◌, ◌*◌, ◌/◌, ◌<◌, ◌≤◌, ◌⊎◌, List, length, get_or, sym, refl, ap, ◌∙◌, subst, inl, inr, ⊎_elim, arith}
-use Rattle.byte_lists.specs.Bytes.{laid}
+use Rattle.std.proofs.Common.{◌≡◌, ℕ, ◌+◌, ◌≤◌, List, length, get_or, sym, refl, ap, ◌∙◌, subst, inl, inr, ⊎_elim, arith}
 use Rattle.byte_lists.proofs.Laid.{length_laid, before_laid, past_laid}
 use Rattle.device.specs.Meanings.{Meaning, Writes, endless, some}
 use Rattle.writing.specs.Runs.{Outside, Used, Counted, Keeps, Completed}

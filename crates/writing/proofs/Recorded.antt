@@ -1,5 +1,5 @@
 -- The bytes of a record.
-use Rattle.std.proofs.Common.{◌≡◌, ℕ, ◌+◌, ◌-◌, ◌*◌, ◌≤◌, List, ◌++◌, length, sym, refl, ap, ◌∙◌, subst, arith}
+use Rattle.std.proofs.Common.{◌≡◌, ℕ, length, subst, arith}
 use Rattle.std.proofs.lemmas.List.{length-append}
 use Rattle.faults.specs.declared.device.DeviceFault.{DeviceFault}
 use Rattle.device.specs.Meanings.{Meaning}

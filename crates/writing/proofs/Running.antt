@@ -1,5 +1,5 @@
 -- Runs of writes, one after another.
-use Rattle.std.proofs.Common.{◌≡◌, ℕ, ◌+◌, ◌-◌, ◌*◌, ◌/◌, ◌%◌, ◌<◌, ◌≤◌, Bool, true, false, cond, ltb, ◌⊎◌, List, [], ◌∷◌, ◌++◌, length, get_or, take, drop, Some, None, Ok, Err, Option, Result, sym, refl, ap, ◌∙◌, subst, inl, inr, ⊎_elim, arith, take-add, rules}
+use Rattle.std.proofs.Common.{◌≡◌, ℕ, ◌+◌, ◌-◌, ◌*◌, ◌/◌, ◌%◌, ◌<◌, ◌≤◌, Bool, true, false, cond, ltb, List, [], ◌++◌, length, take, drop, Some, None, Ok, Err, Option, Result, sym, refl, ap, ◌∙◌, subst, inl, inr, ⊎_elim, arith, take-add, rules}
 use mathlib.Core.Bool.{false≢true}
 use Rattle.std.proofs.lemmas.List.{places, same_lists, length-append, length-take-le, length-drop, append_assoc, take_at, drop_at, drop-drop, take_all}
 use Rattle.std.proofs.lemmas.Bool.{cases_lt, cases_eq, ltb-true, ltb-false}
@@ -7,7 +7,7 @@ use Rattle.byte_lists.specs.Bytes.{laid}
 use Rattle.faults.specs.declared.device.DeviceFault.{DeviceFault}
 use Rattle.faults.specs.declared.device.DeviceFault.TheVariants.{Range, Power, Bad}
 use Rattle.device.specs.Meanings.{Meaning, Condition, Whole, Writes, endless, some, is_bad, spoils, refusal, refuses, spent, Cut, stored, Spends, WritesBy, Written}
-use Rattle.writing.specs.Runs.{Touches, Outside, Used, Counted, Keeps, Completed, Stopped, Lost, Interrupted, Runs}
+use Rattle.writing.specs.Runs.{Touches, Outside, Used, Counted, Completed, Stopped, Interrupted, Runs}
 use Rattle.writing.proofs.Keeping.{used_none, used_both, used_less, counted_before, keeps_all, keeps_both, keeps_less, outside_part, completed_keeps}
 
 abbrev Answer : Type 0

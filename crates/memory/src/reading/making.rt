@@ -3,7 +3,7 @@
 ghost use Rattle.std.specs.Prelude.{◌≡◌, true};
 ghost use Rattle.device.specs.Meanings.{endless};
 ghost use Rattle.memory.specs.Memories.{memory};
-ghost use Rattle.memory.specs.contracts.reading.ReadMemoryDevice.TheImpl.{ghosts as as-device};
+ghost use Rattle.memory.specs.contracts.reading.ReadMemoryDevice.TheImpl.{ghosts as as_device};
 
 use super::ReadMemory;
 use crate::sectors::count_sectors;
@@ -11,8 +11,8 @@ use crate::sectors::count_sectors;
 impl<'a> ReadMemory<'a> {
     /// A device of lent bytes: all their whole sectors, each good, with power on.
     pub fn new(bytes: &'a [u8]) -> ReadMemory<'a>
-        ensures meaning { as-device.meaning result ≡ memory bytes.now true endless }
-        ensures sound { as-device.sound result }
+        ensures meaning { as_device.meaning result ≡ memory bytes.now true endless }
+        ensures sound { as_device.sound result }
     {
         let sectors = count_sectors(bytes);
         ReadMemory { bytes, sectors }

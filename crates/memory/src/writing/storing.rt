@@ -4,7 +4,7 @@ ghost use Rattle.std.specs.Prelude.{◌≡◌, true, length, None};
 ghost use Rattle.device.specs.Meanings.{Whole, Written, Cut, refusal, spent, stored};
 ghost use Rattle.memory.specs.Memories.{tail};
 ghost use Rattle.memory.specs.Writing.{writes, torn, outcome};
-ghost use Rattle.memory.specs.contracts.writing.WriteMemoryDevice.TheImpl.{ghosts as as-device};
+ghost use Rattle.memory.specs.contracts.writing.WriteMemoryDevice.TheImpl.{ghosts as as_device};
 
 use super::{Budget, WriteMemory};
 use byte_lists::slices::{know_bytes, lay_over};
@@ -15,13 +15,13 @@ use faults::device::DeviceFault;
 impl<'a> WriteMemory<'a> {
     /// Writes as every device does, and says its one result, a torn write's too.
     pub fn write(&mut self, place: u32, piece: &[u8]) -> Result<(), DeviceFault>
-        requires { as-device.sound self.old }
-        ensures written { Written (as-device.meaning self.old) place piece.now result (as-device.meaning self.new) }
-        ensures whole { Whole (as-device.meaning self.old) }
-        ensures still { Whole (as-device.meaning self.new) }
-        ensures sound { as-device.sound self.new }
-        ensures answer { result ≡ (outcome self.old.tear (as-device.meaning self.old) place piece.now).answer }
-        ensures device { as-device.meaning self.new ≡ (outcome self.old.tear (as-device.meaning self.old) place piece.now).device }
+        requires { as_device.sound self.old }
+        ensures written { Written (as_device.meaning self.old) place piece.now result (as_device.meaning self.new) }
+        ensures whole { Whole (as_device.meaning self.old) }
+        ensures still { Whole (as_device.meaning self.new) }
+        ensures sound { as_device.sound self.new }
+        ensures answer { result ≡ (outcome self.old.tear (as_device.meaning self.old) place piece.now).answer }
+        ensures device { as_device.meaning self.new ≡ (outcome self.old.tear (as_device.meaning self.old) place piece.now).device }
         ensures tear { self.new.tear ≡ self.old.tear }
         ensures tail { tail self.new.bytes.now ≡ tail self.old.bytes.now }
         ensures lent { self.new.bytes.ghost_name ≡ self.old.bytes.ghost_name }
@@ -46,14 +46,14 @@ impl<'a> WriteMemory<'a> {
 
     /// Stores a piece, and has so many writes left.
     fn store(&mut self, place: u32, piece: &[u8], left: Budget)
-        requires sound { as-device.sound self.old }
-        requires free { refusal (as-device.meaning self.old) place (length piece.now) ≡ None }
-        ensures meaning { as-device.meaning self.new ≡ stored (as-device.meaning self.old) place piece.now (writes left) }
+        requires sound { as_device.sound self.old }
+        requires free { refusal (as_device.meaning self.old) place (length piece.now) ≡ None }
+        ensures meaning { as_device.meaning self.new ≡ stored (as_device.meaning self.old) place piece.now (writes left) }
         ensures tear { self.new.tear ≡ self.old.tear }
         ensures tail { tail self.new.bytes.now ≡ tail self.old.bytes.now }
         ensures lent { self.new.bytes.ghost_name ≡ self.old.bytes.ghost_name }
-        ensures whole { Whole (as-device.meaning self.new) }
-        ensures sound { as-device.sound self.new }
+        ensures whole { Whole (as_device.meaning self.new) }
+        ensures sound { as_device.sound self.new }
     {
         know_bytes(piece);
         lay_over(self.bytes, place as usize, piece);
@@ -62,15 +62,15 @@ impl<'a> WriteMemory<'a> {
 
     /// Stores the front of a piece as power goes.
     fn tear(&mut self, place: u32, piece: &[u8])
-        requires sound { as-device.sound self.old }
-        requires free { refusal (as-device.meaning self.old) place (length piece.now) ≡ None }
-        ensures meaning { as-device.meaning self.new ≡ torn self.old.tear (as-device.meaning self.old) place piece.now }
-        ensures cut { Cut (as-device.meaning self.old) place piece.now (as-device.meaning self.new) }
+        requires sound { as_device.sound self.old }
+        requires free { refusal (as_device.meaning self.old) place (length piece.now) ≡ None }
+        ensures meaning { as_device.meaning self.new ≡ torn self.old.tear (as_device.meaning self.old) place piece.now }
+        ensures cut { Cut (as_device.meaning self.old) place piece.now (as_device.meaning self.new) }
         ensures tear { self.new.tear ≡ self.old.tear }
         ensures tail { tail self.new.bytes.now ≡ tail self.old.bytes.now }
         ensures lent { self.new.bytes.ghost_name ≡ self.old.bytes.ghost_name }
-        ensures whole { Whole (as-device.meaning self.new) }
-        ensures sound { as-device.sound self.new }
+        ensures whole { Whole (as_device.meaning self.new) }
+        ensures sound { as_device.sound self.new }
     {
         know_bytes(piece);
         let n = self.tear.stored_of(place, piece.len());

@@ -1,4 +1,4 @@
-use Rattle.std.proofs.Common.{◌≡◌, List, length, take, sym, refl, ap, ◌∙◌, subst, inr, arith}
+use Rattle.std.proofs.Common.{List, length, take, ap, ◌∙◌, subst, inr, arith}
 use Rattle.cdb.specs.Verdicts.{Judged}
 use Rattle.answering.specs.Answers.{answer_verdict}
 use Rattle.answering.proofs.Laid.{front_laid}

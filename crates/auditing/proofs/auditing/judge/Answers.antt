@@ -1,8 +1,7 @@
-use Rattle.std.proofs.Common.{◌≡◌, ℕ, ◌+◌, ◌-◌, ◌*◌, ◌/◌, ◌<◌, ◌≤◌, List, length, Ok, Err, sym, refl, ap, ◌∙◌, subst, arith, rules}
+use Rattle.std.proofs.Common.{◌≡◌, ℕ, ◌+◌, ◌-◌, ◌/◌, ◌<◌, ◌≤◌, List, length, Ok, Err, sym, refl, ap, ◌∙◌, subst, arith, rules}
 use Rattle.std.proofs.lemmas.List.{get_or-replicate}
 use Rattle.std.proofs.lemmas.Result.{err_from_is_err_and}
 use Rattle.faults.specs.declared.file.FileFault.{FileFault}
-use Rattle.faults.specs.declared.file.FileFault.TheVariants as fault
 use Rattle.faults.specs.Reports.{report}
 use Rattle.device.specs.Meanings.{Meaning}
 use Rattle.byte_lists.specs.Bytes.{word_at}
@@ -14,7 +13,6 @@ use Rattle.file.specs.Extents.{file, WordsAt}
 use Rattle.scanning.specs.Sweeps.{CountTo, Past, Ahead, Placed, Lost}
 use Rattle.auditing.specs.Tables.{Ruled}
 use Rattle.auditing.specs.Orders.{Ordered}
-use Rattle.auditing.specs.Audits.{verdict}
 use Rattle.auditing.proofs.Breaks.{lowest_fits}
 use Rattle.auditing.proofs.Rulings.{lost_judged, tables_refuse, order_refuse, all_pass}
 use Rattle.auditing.proofs.auditing.judge.Goals as goal

@@ -1,4 +1,4 @@
-use Rattle.std.proofs.Common.{◌≡◌, ℕ, ◌+◌, ◌*◌, ◌<◌, ◌≤◌, ◌∙◌, subst, arith, rules}
+use Rattle.std.proofs.Common.{◌+◌, ◌*◌, ◌<◌, ◌∙◌, subst, arith, rules}
 use Rattle.device.specs.Meanings.{Meaning}
 use Rattle.file.specs.Extents.{file, WordsAt}
 use Rattle.auditing.proofs.Fillings.{filled_more, empty_more, filled_all}

@@ -1,4 +1,4 @@
-use Rattle.std.proofs.Common.{◌≡◌, ◌-◌, ◌≤◌, ltb, take, count_by}
+use Rattle.std.proofs.Common.{◌≡◌, ◌≤◌, ltb, take, count_by}
 use Rattle.cdb.specs.Tables.{Slot}
 use Rattle.cdb.specs.Files.{slots_at}
 use Rattle.file.specs.Extents.{file}

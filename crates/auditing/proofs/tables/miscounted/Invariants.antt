@@ -1,4 +1,4 @@
-use Rattle.std.proofs.Common.{◌≡◌, ℕ, ◌-◌, ◌<◌}
+use Rattle.std.proofs.Common.{◌≡◌, ℕ, ◌<◌}
 use Rattle.file.specs.Extents.{file}
 use Rattle.auditing.specs.Tables.{Counted}
 use Rattle.auditing.proofs.tables.miscounted.Given as goal

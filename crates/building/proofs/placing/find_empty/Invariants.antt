@@ -1,4 +1,4 @@
-use Rattle.std.proofs.Common.{◌≡◌, ℕ, ◌+◌, ◌-◌, ◌*◌, ◌/◌, ◌%◌, ◌<◌}
+use Rattle.std.proofs.Common.{◌≡◌, ℕ, ◌+◌, ◌-◌, ◌*◌, ◌<◌}
 use Rattle.byte_lists.specs.Bytes.{word_at}
 use Rattle.cdb.specs.Tables.{home, slot_away}
 use Rattle.building.proofs.placing.find_empty.Given as goal

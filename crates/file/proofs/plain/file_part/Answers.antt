@@ -1,4 +1,3 @@
-use Rattle.std.proofs.Common.{rules}
 use Rattle.device.specs.Meanings.{Meaning}
 use Rattle.file.proofs.Readying.{part_read}
 use Rattle.file.proofs.plain.file_part.Goals as goal

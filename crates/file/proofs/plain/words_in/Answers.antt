@@ -1,4 +1,4 @@
-use Rattle.std.proofs.Common.{◌≡◌, sym, refl, ap, ◌∙◌, arith, rules}
+use Rattle.std.proofs.Common.{refl, ◌∙◌, arith, rules}
 use Rattle.file.specs.Extents.{file}
 use Rattle.byte_lists.proofs.Words.{word_in}
 use Rattle.file.proofs.plain.words_in.Goals as goal

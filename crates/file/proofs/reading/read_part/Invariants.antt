@@ -1,4 +1,4 @@
-use Rattle.std.proofs.Common.{◌≡◌, ◌-◌, ◌≤◌, length}
+use Rattle.std.proofs.Common.{◌≡◌, ◌-◌, ◌≤◌}
 use Rattle.file.specs.Ranges.{AllRead, Holds}
 use Rattle.file.proofs.reading.read_part.Given as goal
 

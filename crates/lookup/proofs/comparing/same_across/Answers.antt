@@ -1,4 +1,4 @@
-use Rattle.std.proofs.Common.{◌≡◌, ℕ, ◌+◌, ◌-◌, ◌≤◌, Bool, true, false, List, length, take, drop, Ok, ap, ◌∙◌, subst, arith}
+use Rattle.std.proofs.Common.{ℕ, ◌+◌, ◌-◌, ◌≤◌, Bool, List, length, take, drop, Ok, ◌∙◌, subst, arith}
 use Rattle.device.specs.Meanings.{Meaning}
 use Rattle.file.specs.declared.extents.Extent.{Extent}
 use Rattle.file.proofs.Readying.{buffer_long}

@@ -1,8 +1,8 @@
-use Rattle.std.proofs.Common.{◌≡◌, ℕ, ◌+◌, ◌*◌, ◌%◌, ◌≤◌, List, sym, refl, ap, ◌∙◌, subst, arith}
+use Rattle.std.proofs.Common.{ℕ, sym, refl, ◌∙◌, subst, arith}
 use Rattle.std.proofs.lemmas.Result.{err_from_is_err_and}
 use Rattle.device.specs.Meanings.{Meaning}
 use Rattle.lookup.specs.declared.cursors.Cursor.{Cursor}
-use Rattle.lookup.specs.Probes.{RecordProbe, SlotProbe, slot_past, slot_bad, slot_empty, other_hash, same_hash, slot_place, table_in}
+use Rattle.lookup.specs.Probes.{RecordProbe, slot_past, slot_bad, slot_empty, other_hash, same_hash, slot_place, table_in}
 use Rattle.lookup.proofs.Placed.{words_read, words_refused}
 use Rattle.lookup.proofs.probing.probe_slot.Goals as goal
 

@@ -1,4 +1,4 @@
-use Rattle.std.proofs.Common.{◌≡◌, ◌+◌, ◌-◌, ◌<◌, ◌≤◌, sym, ◌∙◌, mod-eq_of_lt, arith}
+use Rattle.std.proofs.Common.{◌≡◌, ◌+◌, ◌-◌, ◌<◌, sym, ◌∙◌, mod-eq_of_lt, arith}
 use Rattle.lookup.proofs.Around.{wrapped}
 use Rattle.lookup.proofs.walking.after.Goals as goal
 

@@ -1,4 +1,4 @@
-use Rattle.std.proofs.Common.{◌≡◌, ℕ, ◌+◌, ◌*◌, ◌%◌, ◌<◌, ◌≤◌, ◌⊎◌, Ok, Err, Result, sym, refl, ap, ◌∙◌, subst, inl, inr, ⊎_elim, arith, rules}
+use Rattle.std.proofs.Common.{◌≡◌, ℕ, ◌+◌, ◌%◌, ◌<◌, ◌≤◌, Ok, Result, sym, refl, ap, ◌∙◌, subst, ⊎_elim, arith}
 use Rattle.std.proofs.lemmas.Result.{err_from_is_err_and}
 use Rattle.std.proofs.lemmas.Bool.{cases_eq}
 use Rattle.faults.specs.declared.file.FileFault.{FileFault}
@@ -9,7 +9,7 @@ use Rattle.lookup.specs.declared.cursors.Cursor.{Cursor}
 use Rattle.lookup.specs.declared.cursors.Probe.{Probe}
 use Rattle.lookup.specs.declared.cursors.Probe.TheVariants.{Other}
 use Rattle.lookup.specs.Probes.{SlotProbe}
-use Rattle.lookup.specs.Nexts.{ProbeAt, Passes, Walk, ended, all_others, empty, found, refused}
+use Rattle.lookup.specs.Nexts.{ProbeAt, Passes, ended, all_others, empty, found, refused}
 use Rattle.lookup.proofs.Around.{away_more, away_below}
 use Rattle.lookup.proofs.walking.walk.Goals as goal
 

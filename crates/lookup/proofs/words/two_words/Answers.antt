@@ -1,8 +1,7 @@
-use Rattle.std.proofs.Common.{◌≡◌, ℕ, ◌+◌, ◌%◌, ◌≤◌, true, is_ok, sym, refl, ap, ◌∙◌, subst, arith, rules}
-use Rattle.std.proofs.lemmas.Result.{err_from_is_err_and}
+use Rattle.std.proofs.Common.{◌≡◌, ℕ, ◌+◌, true, is_ok, refl, ap, ◌∙◌, arith, rules}
 use Rattle.byte_lists.proofs.Words.{word_in}
 use Rattle.device.specs.Meanings.{Meaning, within}
-use Rattle.file.proofs.Turns.{read_ok, read_err, piece_readable}
+use Rattle.file.proofs.Turns.{read_ok, piece_readable}
 use Rattle.lookup.proofs.words.two_words.Goals as goal
 
 pub returns : goal.returns

@@ -1,4 +1,4 @@
-use Rattle.std.proofs.Common.{◌≡◌, ◌+◌, ◌-◌, ◌<◌, ◌≤◌, length, sym, refl, ap, ◌∙◌, arith, rules}
+use Rattle.std.proofs.Common.{◌+◌, ◌<◌, length, sym, refl, ◌∙◌, arith}
 use Rattle.device.specs.Meanings.{Meaning}
 use Rattle.lookup_runs.specs.Runs.{skipped, not_found, no_part}
 use Rattle.lookup_runs.proofs.Stepping.{fetched_into}

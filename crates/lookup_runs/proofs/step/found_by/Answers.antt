@@ -1,4 +1,4 @@
-use Rattle.std.proofs.Common.{◌≡◌, ◌<◌, ◌≤◌, sym, refl, ap, ◌∙◌, arith, rules}
+use Rattle.std.proofs.Common.{sym, ap, ◌∙◌, arith}
 use Rattle.lookup_runs.specs.declared.calls.Answer.TheVariants as answer
 use Rattle.lookup_runs.specs.Runs.{found_in}
 use Rattle.lookup_runs.proofs.Stepping.{found_past, found_at}

@@ -1,4 +1,4 @@
-use Rattle.std.proofs.Common.{◌≡◌, sym, refl, ap, ◌∙◌, rules}
+use Rattle.std.proofs.Common.{sym, refl, ◌∙◌}
 use Rattle.std.proofs.lemmas.Bool.{false≢true}
 use Rattle.lookup_runs.specs.Runs.{asked, strayed, skipped, asks, strays, equal_hash}
 use Rattle.lookup_runs.proofs.step.next_with.Goals as goal

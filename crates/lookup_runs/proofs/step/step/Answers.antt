@@ -1,4 +1,4 @@
-use Rattle.std.proofs.Common.{◌≡◌, sym, refl, ap, ◌∙◌, rules}
+use Rattle.std.proofs.Common.{refl}
 use Rattle.lookup_runs.proofs.step.step.Goals as goal
 
 pub returns-in-Next : goal.returns-in-Next

@@ -1,6 +1,4 @@
-use mathlib.Core.Path.{◌≡◌, sym, subst}
-use Rattle.device.specs.Meanings.{Meaning}
-use Rattle.history.specs.Histories.{Moves, opened, open_refused}
+use Rattle.history.specs.Histories.{opened, open_refused}
 use Rattle.playing.proofs.playing.reopen.Goals as goal
 
 pub returns-in-Ok : goal.returns-in-Ok

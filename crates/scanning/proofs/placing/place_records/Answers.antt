@@ -1,9 +1,8 @@
-use Rattle.std.proofs.Common.{◌≡◌, ℕ, ◌+◌, ◌*◌, ◌%◌, ◌<◌, ◌≤◌, length, Some, None, Option, sym, refl, ap, ◌∙◌, subst, arith, rules}
+use Rattle.std.proofs.Common.{◌≡◌, ℕ, ◌<◌, length, Some, None, Option, refl, ◌∙◌, subst, arith, rules}
 use Rattle.device.specs.Meanings.{Meaning}
-use Rattle.cdb.specs.Records.{table_of}
 use Rattle.file.specs.Extents.{file}
 use Rattle.scanning.specs.Searches.{item_at, Outcome, Located}
-use Rattle.scanning.specs.Sweeps.{Steps, Met, Swept, Placed}
+use Rattle.scanning.specs.Sweeps.{Steps, Met, Swept}
 use Rattle.scanning.proofs.Meets.{met_none, met_more, met_lost, counts_more}
 use Rattle.scanning.proofs.Sweeping.{swept_none, swept_more}
 use Rattle.scanning.proofs.placing.place_records.Goals as goal

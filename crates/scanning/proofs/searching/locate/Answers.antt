@@ -1,5 +1,5 @@
-use Rattle.std.proofs.Common.{◌≡◌, ℕ, ◌+◌, ◌*◌, ◌%◌, ◌<◌, ◌≤◌, sym, ap, ◌∙◌, subst, arith, rules}
-use Rattle.byte_lists.specs.Bytes.{part, word_at}
+use Rattle.std.proofs.Common.{◌≡◌, ℕ, ◌+◌, ◌*◌, ◌%◌, ap, ◌∙◌, subst, rules}
+use Rattle.byte_lists.specs.Bytes.{part}
 use Rattle.device.specs.Meanings.{Meaning}
 use Rattle.cdb.specs.Records.{hash_of}
 use Rattle.file.specs.Extents.{file, WordsAt}

@@ -1,7 +1,6 @@
-use Rattle.std.proofs.Common.{◌≡◌, ℕ, ◌+◌, ◌<◌, ◌≤◌, ◌⊎◌, length, sym, refl, ap, ◌∙◌, subst, inl, inr, arith, rules}
+use Rattle.std.proofs.Common.{◌≡◌, length, sym, refl, ◌∙◌, inr, arith, rules}
 use Rattle.byte_lists.specs.Bytes.{word_at}
-use Rattle.device.specs.Meanings.{Meaning}
-use Rattle.file.specs.Extents.{file, WordsAt}
+use Rattle.file.specs.Extents.{file}
 use Rattle.scanning.proofs.Ranks.{key_lengths}
 use Rattle.scanning.proofs.searching.lowered.Goals as goal
 

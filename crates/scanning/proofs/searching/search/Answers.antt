@@ -1,4 +1,4 @@
-use Rattle.std.proofs.Common.{◌≡◌, ℕ, ◌+◌, ◌*◌, ◌≤◌, sym, refl, ap, ◌∙◌, subst, arith, rules, below_more}
+use Rattle.std.proofs.Common.{◌≡◌, ℕ, ◌+◌, ◌*◌, refl, ap, ◌∙◌, subst, rules, below_more}
 use Rattle.device.specs.Meanings.{Meaning}
 use Rattle.file.specs.Extents.{file, WordsAt}
 use Rattle.scanning.specs.Searches.{slot_place, Lowers}

@@ -1,4 +1,4 @@
-use Rattle.std.proofs.Common.{◌≡◌, ℕ, ◌+◌, ◌≤◌, length, refl, subst, arith, rules}
+use Rattle.std.proofs.Common.{◌≡◌, length, refl, subst, arith, rules}
 use Rattle.device.specs.Meanings.{Meaning}
 use Rattle.file.specs.Extents.{file, WordsAt}
 use Rattle.scanning.proofs.Walks.{count_more}

@@ -1,4 +1,4 @@
-use Rattle.std.proofs.Common.{◌≡◌, ℕ, ◌+◌, ◌<◌, ◌≤◌, sym, subst, arith, rules}
+use Rattle.std.proofs.Common.{◌≡◌, ℕ, ◌+◌, sym, subst, arith, rules}
 use Rattle.byte_lists.specs.Bytes.{word_at}
 use Rattle.file.specs.Extents.{file}
 use Rattle.scanning.specs.Sweeps.{Ahead}

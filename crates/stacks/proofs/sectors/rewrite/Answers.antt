@@ -1,5 +1,5 @@
-use Rattle.std.proofs.Common.{◌≡◌, ℕ, ◌*◌, List, length, Ok, sym, subst, rules}
-use Rattle.device.specs.Meanings.{Meaning, Written}
+use Rattle.std.proofs.Common.{◌*◌, Ok, sym, subst, rules}
+use Rattle.device.specs.Meanings.{Written}
 use Rattle.stacks.proofs.Again.{reads_again}
 use Rattle.stacks.proofs.sectors.rewrite.Goals as goal
 

@@ -1,4 +1,4 @@
-use Rattle.std.proofs.Common.{◌≡◌, ℕ, ◌+◌, ◌<◌, ◌≤◌, length, subst, arith, rules}
+use Rattle.std.proofs.Common.{◌≡◌, ◌+◌, ◌<◌, ◌≤◌, length, subst, arith, rules}
 use Rattle.std.proofs.ByRecursion.{All-from_get_or}
 use Rattle.byte_lists.specs.Bytes.{Bytes}
 use Rattle.text.specs.Lexing.{skip}

@@ -1,10 +1,10 @@
-use Rattle.std.proofs.Common.{◌≡◌, ℕ, ◌+◌, ◌<◌, ◌≤◌, List, length, Ok, Err, refl, ◌∙◌, subst, arith}
+use Rattle.std.proofs.Common.{◌<◌, length, Ok, Err, refl, ◌∙◌, arith}
 use Rattle.std.proofs.lemmas.List.{length-set}
 use Rattle.text.specs.declared.fault.TextFault.TheVariants.{Short}
 use Rattle.text.specs.declared.token.Token.TheVariants.{Record, End}
 use Rattle.text.specs.Wholes.{Reads}
 use Rattle.text.proofs.Counting.{over}
-use Rattle.text.proofs.Filling.{Filling, not_ended, one_more, done, gives}
+use Rattle.text.proofs.Filling.{not_ended, one_more, done, gives}
 use Rattle.text.proofs.whole.read_first.Goals as goal
 
 pub returns-then-room-n : goal.returns-then-room-n

@@ -1,9 +1,7 @@
-use Rattle.std.proofs.Common.{◌≡◌, ℕ, ◌+◌, List, Ok, Err, Result, ◌∙◌, subst}
-use Rattle.text.specs.declared.fault.TextFault.{TextFault}
-use Rattle.text.specs.declared.token.Token.{Token}
+use Rattle.std.proofs.Common.{ℕ, List, Err, ◌∙◌, subst}
 use Rattle.text.specs.declared.token.Token.TheVariants.{Record, End}
 use Rattle.text.specs.Readings.{Hands}
-use Rattle.text.proofs.Counting.{Counted, over, one_more, all, refused}
+use Rattle.text.proofs.Counting.{over, one_more, all, refused}
 use Rattle.text.proofs.whole.tally_from.Goals as goal
 
 pub tokens-preserved : goal.tokens-preserved

@@ -1,4 +1,4 @@
-use Rattle.std.proofs.Common.{◌≡◌, ℕ, ◌+◌, ◌≤◌, List, [], ◌∷◌, ◌++◌, length, refl, ap, subst, arith}
+use Rattle.std.proofs.Common.{length, ap, subst, arith}
 use Rattle.text.specs.Readings.{lent}
 use Rattle.text.proofs.Counting.{length_line}
 use Rattle.text_writer.proofs.Laying.{Piece, numbered, laid_line}

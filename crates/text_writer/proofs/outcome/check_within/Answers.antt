@@ -1,6 +1,5 @@
 use Rattle.std.proofs.Common.{subst}
 use Rattle.faults.specs.declared.report.Report.{Report}
-use Rattle.text.specs.Reports.{text_report}
 use Rattle.text_writer.specs.Outcomes.{no_line, Lays}
 use Rattle.text_writer.proofs.Telling.{told_ok, told_no}
 use Rattle.text_writer.proofs.outcome.check_within.Goals as goal

@@ -1,5 +1,5 @@
 use Rattle.std.proofs.Common.{refl, arith}
-use Rattle.text_writer.proofs.Laying.{Piece, numbered}
+use Rattle.text_writer.proofs.Laying.{numbered}
 use Rattle.text_writer.proofs.Telling.{length_ok, laid_ok}
 use Rattle.text_writer.proofs.outcome.put_ok.Goals as goal
 

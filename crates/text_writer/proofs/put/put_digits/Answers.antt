@@ -1,4 +1,4 @@
-use Rattle.std.proofs.Common.{◌≡◌, ℕ, ◌+◌, ◌-◌, ◌^◌, ◌<◌, ◌≤◌, length, decimal, subst, arith}
+use Rattle.std.proofs.Common.{◌≡◌, ◌+◌, length, decimal, subst, arith}
 use Rattle.text_writer.proofs.Laying.{Written, begun, one_digit, ended, narrower, single_width, rest_fits}
 use Rattle.text_writer.proofs.put.put_digits.Goals as goal
 

@@ -1,4 +1,4 @@
-use Rattle.std.proofs.Common.{◌≡◌, ℕ, ◌+◌, List, [], ◌∷◌, length, decimal, sym, ap, ◌∙◌, arith}
+use Rattle.std.proofs.Common.{ℕ, List, [], ◌∷◌, decimal, ap, ◌∙◌, arith}
 use Rattle.byte_lists.specs.Bytes.{laid}
 use Rattle.text_writer.proofs.Laying.{laid_laid}
 use Rattle.text_writer.proofs.put.put_number.Goals as goal

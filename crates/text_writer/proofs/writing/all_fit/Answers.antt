@@ -1,7 +1,5 @@
-use Rattle.std.proofs.Common.{◌≡◌, ℕ, ◌+◌, ◌<◌, ◌≤◌, map, length, get_or, drop, arith}
+use Rattle.std.proofs.Common.{arith}
 use Rattle.std.proofs.lemmas.Bool.{false≢true, ltb-true, lt-ltb}
-use Rattle.text.specs.Texts.{line, text, Proper}
-use Rattle.text.specs.Readings.{lent}
 use Rattle.text_writer.proofs.Back.{blank, proper_at, text_from, text_end}
 use Rattle.text_writer.proofs.writing.all_fit.Goals as goal
 

@@ -1,9 +1,9 @@
-use Rattle.std.proofs.Common.{◌≡◌, ℕ, ◌+◌, ◌<◌, ◌≤◌, List, map, length, get_or, take, drop, sym, refl, ap, ◌∙◌, subst, arith, length-append}
+use Rattle.std.proofs.Common.{◌≡◌, ℕ, ◌+◌, List, map, length, get_or, take, sym, ap, ◌∙◌, arith, length-append}
 use Rattle.std.specs.List.{flat_map}
 use Rattle.std.proofs.lemmas.List.{take_all}
 use Rattle.byte_lists.specs.Bytes.{laid}
 use Rattle.text.specs.declared.lent.LentRecord.{LentRecord}
-use Rattle.text.specs.Texts.{line, text, Proper}
+use Rattle.text.specs.Texts.{line}
 use Rattle.text.specs.Readings.{lent}
 use Rattle.text_writer.proofs.Laying.{laid_laid}
 use Rattle.text_writer.proofs.Back.{blank, proper_at, text_from, text_end, joined_lines_more}

@@ -1,4 +1,4 @@
-use Rattle.std.proofs.Common.{map, Ok, Err, arith}
+use Rattle.std.proofs.Common.{map, Ok}
 use Rattle.text.specs.Readings.{lent}
 use Rattle.text_writer.specs.Writings.{Writes}
 use Rattle.text_writer.proofs.Back.{whole_text, text_back, list_back}

@@ -1,4 +1,4 @@
-use Rattle.std.proofs.Common.{◌-◌, ◌≤◌, length, take}
+use Rattle.std.proofs.Common.{◌-◌, ◌≤◌, take}
 use Rattle.device.specs.Meanings.{Whole}
 use Rattle.writing.specs.Runs.{Completed}
 use Rattle.writing.proofs.pieces.write_all.Given as goal

@@ -1,4 +1,4 @@
-use Rattle.std.proofs.Common.{◌≡◌, ◌-◌, ◌≤◌, length, take, replicate}
+use Rattle.std.proofs.Common.{◌≡◌, ◌-◌, ◌≤◌, take, replicate}
 use Rattle.device.specs.Meanings.{Whole}
 use Rattle.writing.specs.Runs.{Completed}
 use Rattle.writing.proofs.zeros.write_zeros.Given as goal

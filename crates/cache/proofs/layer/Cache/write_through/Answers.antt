@@ -1,4 +1,4 @@
-use Rattle.std.proofs.Common.{◌/◌, length}
+use Rattle.std.proofs.Common.{◌/◌}
 use Rattle.device.specs.Meanings.{spent}
 use Rattle.cache.proofs.Changing.{Mended, done_mends, cut_mends}
 use Rattle.cache.proofs.layer.Cache.write_through.Given as given

@@ -1,4 +1,4 @@
-use Rattle.std.proofs.Common.{◌≡◌, ℕ, ◌<◌, ◌≤◌, length, sym, refl, ap, ◌∙◌, subst, arith, rules}
+use Rattle.std.proofs.Common.{ℕ, ◌≤◌, length, sym, refl, subst}
 use Rattle.std.proofs.lemmas.List.{set_past}
 use Rattle.lookup_changing.specs.Flips.{beside}
 use Rattle.lookup_changing.proofs.flipping.FlippingMemory.flip.Goals as goal

@@ -1,4 +1,4 @@
-use Rattle.std.proofs.Common.{◌≡◌, ℕ, true, List, sym, refl, ap, ◌∙◌, subst, rules}
+use Rattle.std.proofs.Common.{ℕ, true, List, sym, ap, ◌∙◌, subst}
 use Rattle.byte_lists.specs.Bytes.{Bytes}
 use Rattle.device.specs.Meanings.{endless}
 use Rattle.memory.specs.Memories.{memory, fitting}

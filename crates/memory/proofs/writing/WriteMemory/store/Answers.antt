@@ -1,4 +1,4 @@
-use Rattle.std.proofs.Common.{◌≡◌, ◌∙◌, rules}
+use Rattle.std.proofs.Common.{◌∙◌, rules}
 use Rattle.memory.specs.Writing.{writes}
 use Rattle.memory.proofs.Stores.{LaidOver, laid_over}
 use Rattle.memory.proofs.writing.WriteMemory.store.Goals as goal

@@ -1,4 +1,4 @@
-use Rattle.std.proofs.Common.{◌≡◌, ℕ, ◌+◌, ◌≤◌, [], ◌∷◌, length, Ok, Option, sym, subst, arith}
+use Rattle.std.proofs.Common.{◌≡◌, ℕ, ◌+◌, length, Ok, Option, subst, arith}
 use Rattle.cdb.specs.Records.{size}
 use Rattle.records.specs.declared.placed.PlacedRecord.{PlacedRecord}
 use Rattle.records.specs.Readings.{record_of}

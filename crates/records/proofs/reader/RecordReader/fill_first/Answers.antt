@@ -1,12 +1,12 @@
-use Rattle.std.proofs.Common.{◌≡◌, ℕ, ◌+◌, ◌<◌, ◌≤◌, ◌⊎◌, List, length, Some, None, Ok, Err, Option, Result, sym, refl, ap, ◌∙◌, subst, inl, inr, ⊎_elim, arith}
+use Rattle.std.proofs.Common.{◌≡◌, ℕ, List, Some, None, Ok, Err, Option, Result, refl, ap, ◌∙◌, subst, ⊎_elim, arith}
 use Rattle.std.proofs.lemmas.Result.{err_from_is_err_and}
 use Rattle.std.proofs.lemmas.List.{length-set}
 use Rattle.faults.specs.declared.file.FileFault.{FileFault}
 use Rattle.cdb.specs.Rules.{Rule1}
 use Rattle.records.specs.declared.placed.PlacedRecord.{PlacedRecord}
-use Rattle.records.specs.Readings.{TableInside, HeaderBroken, Passing, Hands, Fills}
+use Rattle.records.specs.Readings.{TableInside, Passing, Hands, Fills}
 use Rattle.records.proofs.Proved.{headed}
-use Rattle.records.proofs.Filling.{Filling, begun, not_ended, not_passing, one_more, done, filled_in_order}
+use Rattle.records.proofs.Filling.{not_ended, not_passing, one_more, done, filled_in_order}
 use Rattle.records.proofs.reader.RecordReader.fill_first.Goals as goal
 
 -- a call's answer, over the file that was passed

@@ -1,4 +1,4 @@
-use Rattle.std.proofs.Common.{◌≡◌, ◌-◌, ◌≤◌, length}
+use Rattle.std.proofs.Common.{◌≡◌, ◌≤◌, length}
 use Rattle.records.proofs.Filling.{Filling}
 use Rattle.records.proofs.reader.RecordReader.fill_first.Given as goal
 
