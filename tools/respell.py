@@ -97,6 +97,14 @@ def respell_rt(t, names):
     return "\n".join(lines)
 
 
+def under_its_own_name(t):
+    """The gate takes no word of the library under the name of another one of its words."""
+    if "AllByRecursion as All" not in t:
+        return t
+    t = t.replace("AllByRecursion as All", "AllByRecursion")
+    return re.sub(WORD, lambda m: "AllByRecursion" if m.group(0) == "All" else m.group(0), t)
+
+
 def main():
     names = ours()
     targets = collections.defaultdict(set)
@@ -109,6 +117,7 @@ def main():
     for path in files((".rt", ".antt")):
         t = text(path)
         new = respell_rt(t, names) if path.endswith(".rt") else respell_antt(t, names, bool(GOALS.search(path)))
+        new = under_its_own_name(new)
         if new != t:
             changed += 1
             with open(path, "w", encoding="utf-8") as f:

@@ -2,5 +2,5 @@
 #![tactic(auto)]
 
 pub mod answers;
-pub mod auditing;
+pub mod input;
 pub mod line;

@@ -1,7 +1,7 @@
 //! Audits the cdb file on standard input, and prints one line.
 #![tactic(auto)]
 
-use answering::auditing::audit_input;
+use answering::input::audit_input;
 use answering::line::line;
 use std::io;
 use std::io::Read;

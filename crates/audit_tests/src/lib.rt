@@ -4,7 +4,7 @@
 #[cfg(test)]
 mod tests {
     use answering::answers::Answer;
-    use answering::auditing::audit_input;
+    use answering::input::audit_input;
     use answering::line::line;
     use auditing::audits::Counts;
     use faults::report::Report;

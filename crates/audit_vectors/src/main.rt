@@ -1,7 +1,7 @@
 //! Audits each file that is named, and prints its name and its line: files of two other makers, and damaged ones.
 #![tactic(auto)]
 
-use answering::auditing::audit_input;
+use answering::input::audit_input;
 use answering::line::line;
 use std::{env, fs, io};
 

@@ -1,7 +1,7 @@
 -- One answer fits, and it accepts exactly what is made.
 use Rattle.std.proofs.Common.{◌≡◌, ℕ, ◌+◌, ◌/◌, ◌^◌, ◌<◌, ◌≤◌, Bool, true, false, cond, eqb, List, [], ◌∷◌, length, Some, Ok, Err, Result, sym, refl, ap, ◌∙◌, ⊎_elim, arith}
 use mathlib.Core.Bool.{false≢true}
-use Rattle.std.specs.List.{AllByRecursion as All}
+use Rattle.std.specs.List.{AllByRecursion}
 use Rattle.std.proofs.lemmas.Bool.{cases_lt}
 use Rattle.byte_lists.specs.Bytes.{Bytes}
 use Rattle.byte_lists.proofs.Parts.{part_bytes, length_part}
@@ -146,7 +146,7 @@ module _ (m : Meaning) (e : Extent) where
       (λ i. ⊎_elim (λ (v : Unreadable m e g). absurd (not_both g i.0 v)) (λ j. ap (λ (x : FileFault). Err x) (same_fault g f j.1 i.1)) k)
       h
 
-  probes_exist : (xs : List Item) → All (Rule4 (file m e)) xs → (n : ℕ) × Probes (file m e) xs n
+  probes_exist : (xs : List Item) → AllByRecursion (Rule4 (file m e)) xs → (n : ℕ) × Probes (file m e) xs n
   probes_exist [] h = (0, refl)
   probes_exist (x ∷ xs) h = let r = probes_exist xs h.1 in (h.0.0 + 1 + r.0, (h.0.0, r.0, h.0.1, r.1, refl))
 

@@ -1,6 +1,6 @@
 -- Rule 8: from what the sweep finds to the first record that breaks it.
 use Rattle.std.proofs.Common.{◌≡◌, ℕ, ◌+◌, ◌*◌, ◌<◌, ◌≤◌, List, [], ◌∷◌, ◌++◌, length, sym, ap, ◌∙◌, subst, ⊎_elim, mod-lt, arith}
-use Rattle.std.specs.List.{ContainsAt as Has, AllByRecursion as All}
+use Rattle.std.specs.List.{ContainsAt as Has, AllByRecursion}
 use Rattle.std.proofs.ByRecursion.{all-has, All-weaker, all_has_itself}
 use Rattle.std.proofs.lemmas.Bool.{cases_lt}
 use Rattle.byte_lists.specs.Bytes.{word_at}
@@ -21,7 +21,7 @@ use Rattle.scanning.proofs.Sweeping.{item_in}
 
 -- the items split at each of them, and those before it have smaller places
 split_at : (f : List ℕ) (q end : ℕ) (rs : List Record) (x : Item) → Records f q end rs → Has (items q rs) x
-    → (b : List Item) × (a : List Item) × (items q rs ≡ b ++ x ∷ a) × All (λ z. Has (items q rs) z × (z.place < x.place)) b
+    → (b : List Item) × (a : List Item) × (items q rs ≡ b ++ x ∷ a) × AllByRecursion (λ z. Has (items q rs) z × (z.place < x.place)) b
 split_at f q end [] x h m = absurd (has_nil x m)
 split_at f q end (r ∷ rs) x h m =
     let y : Item = record { key = r.key; place = q } in
@@ -41,12 +41,12 @@ split_at f q end (r ∷ rs) x h m =
     ))
     (has_cons_cases y (items n rs) x m)
 
-module _ (f : List ℕ) (rs : List Record) (reads : Rule3 f rs) (placed : All (Rule4 f) (items 2048 rs)) (counted : Each (Rule5 f rs)) (inside : position f 0 ≤ length f) where
+module _ (f : List ℕ) (rs : List Record) (reads : Rule3 f rs) (placed : AllByRecursion (Rule4 f) (items 2048 rs)) (counted : Each (Rule5 f rs)) (inside : position f 0 ≤ length f) where
   -- a filled slot leads to a record of the file
   owner_at : (t i : ℕ) → t < 256 → i < slot_count f t → 0 < word_at f (position f t + 8 * i + 4) → (x : Item) × Has (items 2048 rs) x × (x.place ≡ word_at f (position f t + 8 * i + 4))
   owner_at t i l b h =
       let s = slot_at f (position f t) (slot_count f t) i b in
-      let there : All (λ x. (j : ℕ) × Distance (slots_in f t) x j) (belonging t rs) =
+      let there : AllByRecursion (λ x. (j : ℕ) × Distance (slots_in f t) x j) (belonging t rs) =
       All-weaker (Has (belonging t rs)) (λ x. (j : ℕ) × Distance (slots_in f t) x j)
       (λ x m. let r = of_table rs t x m in let d = all-has (Rule4 f) (items 2048 rs) x placed r.0 in (d.0, subst (λ (u : ℕ). Distance (slots_in f u) x d.0) r.1 d.1))
       (belonging t rs) (all_has_itself (belonging t rs)) in
@@ -66,7 +66,7 @@ module _ (f : List ℕ) (rs : List Record) (reads : Rule3 f rs) (placed : All (R
 
     least : (y : Item) → Has (items 2048 rs) y → (q : ℕ) → Overtakes f y q → low ≤ q
     least y h =
-        all-has (λ y. (q : ℕ) → Overtakes f y q → low ≤ q) (items 2048 rs) y (subst (λ (z : List Record). All (λ y. (q : ℕ) → Overtakes f y q → low ≤ q) (items 2048 z)) same swept.least) h
+        all-has (λ y. (q : ℕ) → Overtakes f y q → low ≤ q) (items 2048 rs) y (subst (λ (z : List Record). AllByRecursion (λ y. (q : ℕ) → Overtakes f y q → low ≤ q) (items 2048 z)) same swept.least) h
 
     -- a record before the lowest keeps rule 8
     keeps : (x : Item) → Has (items 2048 rs) x → x.place < low → Rule8 f rs x
@@ -76,7 +76,7 @@ module _ (f : List ℕ) (rs : List Record) (reads : Rule3 f rs) (placed : All (R
         (λ (l : k ≤ j). l)
         (cases_lt j k)
 
-    pub swept_passes : end ≤ low → All (Rule8 f rs) (items 2048 rs)
+    pub swept_passes : end ≤ low → AllByRecursion (Rule8 f rs) (items 2048 rs)
     swept_passes e =
         All-weaker (Has (items 2048 rs)) (Rule8 f rs)
         (λ x hx. keeps x hx (let k = item_in f 2048 (position f 0) rs x reads hx in omega (arith, k.2)))

@@ -1,6 +1,6 @@
 -- From what the passes find to the verdict.
 use Rattle.std.proofs.Common.{◌≡◌, ℕ, zero, suc, ◌+◌, ◌-◌, ◌*◌, ◌/◌, ◌<◌, ◌≤◌, Bool, true, false, cond, ltb, List, [], ◌∷◌, length, get_or, Ok, Err, count_by, sym, refl, ap, ◌∙◌, subst, ⊎_elim, arith}
-use Rattle.std.specs.List.{AllByRecursion as All}
+use Rattle.std.specs.List.{AllByRecursion}
 use Rattle.std.proofs.lemmas.List.Sums.{sum_by-cons, count_by-le-length}
 use Rattle.std.proofs.lemmas.Bool.{lt-ltb, le-ltb, cases_lt}
 use Rattle.faults.specs.declared.file.FileFault.{FileFault}
@@ -130,7 +130,7 @@ module _ (f : List ℕ) (long : Rule1 f) (H : Each (Rule2 f)) (end : ℕ) (here 
     unfolding rs
     reads = subst (λ (e : ℕ). Records f 2048 e placed.met.0) here placed.met.1
 
-    found : All (Rule4 f) (items 2048 rs)
+    found : AllByRecursion (Rule4 f) (items 2048 rs)
     unfolding rs
     found = probes_placed f (items 2048 placed.met.0) q placed.met.2
 

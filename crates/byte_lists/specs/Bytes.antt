@@ -1,10 +1,10 @@
 -- Lists of bytes: parts, pieces laid over, words.
 use Rattle.std.specs.Prelude.{ℕ, ◌+◌, ◌*◌, ◌/◌, ◌%◌, ◌<◌, List, [], ◌∷◌, ◌++◌, length, take, drop, slice_index}
-use Rattle.std.specs.List.{AllByRecursion as All}
+use Rattle.std.specs.List.{AllByRecursion}
 
 -- every number of the list is a byte
 abbrev pub Bytes : List ℕ → Type 0
-Bytes xs = All (λ b. b < 256) xs
+Bytes xs = AllByRecursion (λ b. b < 256) xs
 
 -- n bytes from a place on, or as many as there are
 abbrev pub part : List ℕ → ℕ → ℕ → List ℕ

@@ -1,7 +1,7 @@
 -- A lawful table is a permitted filling: cut the circle at an empty slot, and put the items in slot order from there.
 use Rattle.std.proofs.Common.{◌≡◌, ℕ, zero, suc, ◌+◌, ◌-◌, ◌%◌, ◌<◌, ◌≤◌, true, false, cond, ◌⊎◌, List, [], ◌∷◌, ◌++◌, length, get_or, set, replicate, count_by, sym, refl, ap, ◌∙◌, subst, inl, inr, ⊎_elim, add_assoc, mod-lt, mod-eq_of_lt, arith}
 use native.Mathlib.Nat.{mod-eq-sub-mod, mod-add-mod, add-mod_right}
-use Rattle.std.specs.List.{ContainsAt as Has, AllByRecursion as All}
+use Rattle.std.specs.List.{ContainsAt as Has, AllByRecursion}
 use Rattle.std.proofs.lemmas.List.{get_or_append_left, get_or_push, length_push, get_or-replicate, length-replicate, nil_from_length, get_or_default, ext_get_or}
 use Rattle.std.proofs.ByRecursion.{all-has, All-weaker, all_has_itself, has_push_cases, has_get_or}
 use Rattle.std.proofs.lemmas.List.Sums.{sum_by-cons, count_by-le-length}
@@ -50,7 +50,7 @@ same_item q xs f x y hx hy e =
     (λ l. absurd (omega (arith, two y.place xs hy.0 hx.0 x l hx.1 at_y at_x))) o)
     (cases_order hx.0 hy.0)
 
-pub above : (q : ℕ) (xs : List Item) → InFile q xs → All (λ y. q < y.place) xs
+pub above : (q : ℕ) (xs : List Item) → InFile q xs → AllByRecursion (λ y. q < y.place) xs
 above q [] f = tt
 above q (x ∷ xs) f =
     (f.0, All-weaker (λ y. x.place < y.place) (λ y. q < y.place) (λ y l. omega (arith, f.0)) xs (above x.place xs f.1))

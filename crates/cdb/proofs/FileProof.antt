@@ -1,6 +1,6 @@
 -- A file is lawful exactly when permitted fillings give its bytes.
 use Rattle.std.proofs.Common.{◌≡◌, ℕ, zero, suc, ◌+◌, ◌-◌, ◌*◌, ◌%◌, ◌^◌, ◌<◌, ◌≤◌, eqb, ◌↔◌, List, [], ◌∷◌, ◌++◌, length, get_or, sym, refl, ap, ◌∙◌, subst, ⊎_elim, arith}
-use Rattle.std.specs.List.{ContainsAt as Has, flat_map, AllByRecursion as All}
+use Rattle.std.specs.List.{ContainsAt as Has, flat_map, AllByRecursion}
 use Rattle.std.proofs.lemmas.List.{length-append}
 use Rattle.std.proofs.ByRecursion.{all-has, All-from_get_or, all_kept_by, has_shuffled}
 use Rattle.std.proofs.lemmas.List.Sorted.{IsPermutation-sym}
@@ -92,7 +92,7 @@ header_read f q p (s ∷ ss) b a (suc i) l =
     rw z r
 
 -- the slots of a filling are small
-filling_small : (xs : List Item) (s : List Slot) → InFile 0 xs → All (λ (y : Item). (hash_of y.key < 2 ^ 32) × (y.place < 2 ^ 32)) xs → FillingItems xs s → All Small s
+filling_small : (xs : List Item) (s : List Slot) → InFile 0 xs → AllByRecursion (λ (y : Item). (hash_of y.key < 2 ^ 32) × (y.place < 2 ^ 32)) xs → FillingItems xs s → AllByRecursion Small s
 filling_small xs s f small fill =
     let back : (y : Item) → Has fill.order y → Has xs y = λ y h. has_shuffled fill.order xs y (IsPermutation-sym xs fill.order fill.permitted.same) h in
     let h = held (λ y m. all-has (λ z. 0 < z.place) xs y (all_positive 0 xs f) (back y m)) fill.fills in
@@ -118,7 +118,7 @@ pub record ReadBack (f : List ℕ) (rs : List Record) (ss : List (List Slot)) : 
   pub counts : (t : ℕ) → t < 256 → slot_count f t ≡ length (get_or ss t [])
   pub entries : Each (Rule2 f)
   pub read : Rule3 f rs
-  pub slots : (t : ℕ) → t < 256 → All Small (get_or ss t []) → slots_in f t ≡ get_or ss t []
+  pub slots : (t : ℕ) → t < 256 → AllByRecursion Small (get_or ss t []) → slots_in f t ≡ get_or ss t []
 
 pub made_reads : (f : List ℕ) (rs : List Record) (ss : List (List Slot)) → length ss ≡ 256 → f ≡ file_of rs ss → length f < 2 ^ 32 → ReadBack f rs ss
 unfolding file_of

@@ -1,6 +1,6 @@
 -- A permitted filling is lawful.
 use Rattle.std.proofs.Common.{◌≡◌, ℕ, zero, suc, ◌+◌, ◌-◌, ◌<◌, ◌≤◌, Bool, true, cond, eqb, ltb, List, [], ◌∷◌, ◌++◌, length, get_or, take, drop, replicate, sum_by, count_by, sym, refl, ap, ◌∙◌, subst, ⊎_elim, arith}
-use Rattle.std.specs.List.{ContainsAt as Has, AllByRecursion as All}
+use Rattle.std.specs.List.{ContainsAt as Has, AllByRecursion}
 use Rattle.std.proofs.lemmas.List.{get_or_append_left, get_or_push, length_push, length-replicate, get_or-replicate, get_or_past, get_or-take, get_or-drop, length-take-le, length-drop}
 use Rattle.std.proofs.ByRecursion.{has_append_left, has_push, has_push_cases, all-has, has_shuffled, all_shuffled}
 use Rattle.std.proofs.lemmas.List.Sums.{sum_by-cons, sum_by-take-drop, get_or-le-sum_by}
@@ -173,7 +173,7 @@ before items order f m i j d l k = (
   m.kept i j d l k,
 )
 
-pub all_positive : (q : ℕ) (xs : List Item) → InFile q xs → All (λ x. 0 < x.place) xs
+pub all_positive : (q : ℕ) (xs : List Item) → InFile q xs → AllByRecursion (λ x. 0 < x.place) xs
 all_positive q [] h = tt
 all_positive q (x ∷ xs) h = (omega (arith, h.0), all_positive x.place xs h.1)
 

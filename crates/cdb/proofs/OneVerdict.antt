@@ -1,6 +1,6 @@
 -- A file has one verdict: rule by rule, either it breaks there, at one place, or the rest decides.
 use Rattle.std.proofs.Common.{◌≡◌, ℕ, ◌+◌, ◌*◌, ◌<◌, ◌≤◌, ◌⊎◌, List, [], ◌∷◌, ◌++◌, length, sym, refl, ap, ◌∙◌, subst, inl, inr, ⊎_elim, arith}
-use Rattle.std.specs.List.{AllByRecursion as All}
+use Rattle.std.specs.List.{AllByRecursion}
 use Rattle.std.proofs.lemmas.Bool.{cases_lt}
 use Rattle.byte_lists.specs.Bytes.{word_at}
 use Rattle.faults.specs.Reports.{report}
@@ -34,7 +34,7 @@ one_first n t u Keeps a b =
     (λ (l : u ≤ t). ⊎_elim (λ (k : u < t). absurd (b.broken (a.before u k))) (λ (k : t ≤ u). omega arith) (cases_lt u t))
     (cases_lt t u)
 
-one_in_list : (Keeps : Item → Type 0) (b c a d : List Item) (x y : Item) → b ++ x ∷ a ≡ c ++ y ∷ d → All Keeps b → (Keeps x → ⊥) → All Keeps c → (Keeps y → ⊥) → x ≡ y
+one_in_list : (Keeps : Item → Type 0) (b c a d : List Item) (x y : Item) → b ++ x ∷ a ≡ c ++ y ∷ d → AllByRecursion Keeps b → (Keeps x → ⊥) → AllByRecursion Keeps c → (Keeps y → ⊥) → x ≡ y
 one_in_list Keeps [] [] a d x y e hb nx hc ny = cc
 one_in_list Keeps [] (z ∷ c) a d x y e hb nx hc ny = let q : z ≡ x = cc in absurd (nx (subst Keeps q hc.0))
 one_in_list Keeps (z ∷ b) [] a d x y e hb nx hc ny = let q : z ≡ y = cc in absurd (ny (subst Keeps q hb.0))
@@ -43,12 +43,12 @@ one_in_list Keeps (z ∷ b) (u ∷ c) a d x y e hb nx hc ny = let q : b ++ x ∷
 one_first_of : (xs : List Item) (Keeps : Item → Type 0) (x y : Item) → FirstOf xs Keeps x → FirstOf xs Keeps y → x ≡ y
 one_first_of xs Keeps x y a b = one_in_list Keeps a.before b.before a.after b.after x y (sym a.among ∙ b.among) a.kept a.broken b.kept b.broken
 
-all_first : (Keeps : Item → Type 0) (b a : List Item) (x : Item) → All Keeps (b ++ x ∷ a) → Keeps x
+all_first : (Keeps : Item → Type 0) (b a : List Item) (x : Item) → AllByRecursion Keeps (b ++ x ∷ a) → Keeps x
 all_first Keeps [] a x h = h.0
 all_first Keeps (z ∷ b) a x h = all_first Keeps b a x h.1
 
-not_first_of : (xs : List Item) (Keeps : Item → Type 0) (x : Item) → FirstOf xs Keeps x → All Keeps xs → ⊥
-not_first_of xs Keeps x a h = a.broken (all_first Keeps a.before a.after x (subst (All Keeps) a.among h))
+not_first_of : (xs : List Item) (Keeps : Item → Type 0) (x : Item) → FirstOf xs Keeps x → AllByRecursion Keeps xs → ⊥
+not_first_of xs Keeps x a h = a.broken (all_first Keeps a.before a.after x (subst (AllByRecursion Keeps) a.among h))
 
 one_probes : (f : List ℕ) (xs : List Item) (n m : ℕ) → Probes f xs n → Probes f xs m → n ≡ m
 one_probes f [] n m a b = omega arith
@@ -116,7 +116,7 @@ module _ (f : List ℕ) where
     -- the rules from the fourth on, for these records
     abbrev From4 : Verdict → Type 0
     From4 =
-        Turn (All (Rule4 f) (items 2048 rs)) B4 (Turn (Each (Rule5 f rs)) B5 (Turn (Each (Rule6 f)) B6 (Turn (Each (Rule7 f)) B7 (Turn (All (Rule8 f rs) (items 2048 rs)) B8 Last))))
+        Turn (AllByRecursion (Rule4 f) (items 2048 rs)) B4 (Turn (Each (Rule5 f rs)) B5 (Turn (Each (Rule6 f)) B6 (Turn (Each (Rule7 f)) B7 (Turn (AllByRecursion (Rule8 f rs) (items 2048 rs)) B8 Last))))
 
     not_each : (Keeps : ℕ → Type 0) (t : ℕ) → First 256 Keeps t → Each Keeps → ⊥
     not_each Keeps t h all = h.broken (all t h.within)

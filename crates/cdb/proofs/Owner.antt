@@ -1,6 +1,6 @@
 -- Every filled slot of a lawful table holds an item, at that item's distance.
 use Rattle.std.proofs.Common.{◌≡◌, ℕ, zero, suc, ◌+◌, ◌<◌, true, false, cond, ltb, List, [], ◌∷◌, length, count_by, sym, refl, ap, ◌∙◌, subst, ⊎_elim, add-zero, arith}
-use Rattle.std.specs.List.{ContainsAt as Has, AllByRecursion as All}
+use Rattle.std.specs.List.{ContainsAt as Has, AllByRecursion}
 use Rattle.std.proofs.ByRecursion.{All-weaker, all_has_itself, has_shuffled}
 use Rattle.std.proofs.lemmas.List.Sums.{sum_by-cons}
 use Rattle.std.proofs.lemmas.List.Sorted.{IsPermutation-sym}
@@ -44,16 +44,16 @@ has_filled b (a ∷ s) (suc i) f =
 
 module _ (slots : List Slot) where
   -- the slots of the items
-  spots_of : (xs : List Item) → All (λ x. (j : ℕ) × Distance slots x j) xs → List ℕ
+  spots_of : (xs : List Item) → AllByRecursion (λ x. (j : ℕ) × Distance slots x j) xs → List ℕ
   spots_of [] h = []
   spots_of (x ∷ xs) h = spot slots x h.0.0 ∷ spots_of xs h.1
 
-  length_spots_of : (xs : List Item) (h : All (λ x. (j : ℕ) × Distance slots x j) xs) → length (spots_of xs h) ≡ length xs
+  length_spots_of : (xs : List Item) (h : AllByRecursion (λ x. (j : ℕ) × Distance slots x j) xs) → length (spots_of xs h) ≡ length xs
   unfolding spots_of
   length_spots_of [] h = refl
   length_spots_of (x ∷ xs) h = ap suc (length_spots_of xs h.1)
 
-  slots_above : (q : ℕ) (xs : List Item) (h : All (λ x. (j : ℕ) × Distance slots x j) xs) → InFile q xs → All (λ i. q < (slot slots i).place) (spots_of xs h)
+  slots_above : (q : ℕ) (xs : List Item) (h : AllByRecursion (λ x. (j : ℕ) × Distance slots x j) xs) → InFile q xs → AllByRecursion (λ i. q < (slot slots i).place) (spots_of xs h)
   unfolding spots_of
   slots_above q [] h f = tt
   slots_above q (x ∷ xs) h f = (
@@ -62,7 +62,7 @@ module _ (slots : List Slot) where
         (slots_above x.place xs h.1 f.1),
   )
 
-  slots_differ : (q : ℕ) (xs : List Item) (h : All (λ x. (j : ℕ) × Distance slots x j) xs) → InFile q xs → Differ (spots_of xs h)
+  slots_differ : (q : ℕ) (xs : List Item) (h : AllByRecursion (λ x. (j : ℕ) × Distance slots x j) xs) → InFile q xs → Differ (spots_of xs h)
   unfolding spots_of
   slots_differ q [] h f = tt
   slots_differ q (x ∷ xs) h f =
@@ -73,7 +73,7 @@ module _ (slots : List Slot) where
         slots_differ x.place xs h.1 f.1,
       )
 
-  slots_owned : (xs : List Item) (h : All (λ x. (j : ℕ) × Distance slots x j) xs) (i : ℕ) → Has (spots_of xs h) i → (x : Item) × Has xs x × (j : ℕ) × Distance slots x j × (spot slots x j ≡ i)
+  slots_owned : (xs : List Item) (h : AllByRecursion (λ x. (j : ℕ) × Distance slots x j) xs) (i : ℕ) → Has (spots_of xs h) i → (x : Item) × Has xs x × (j : ℕ) × Distance slots x j × (spot slots x j ≡ i)
   unfolding spots_of
   slots_owned [] h i m = absurd (has_nil i m)
   slots_owned (x ∷ xs) h i m =
@@ -83,7 +83,7 @@ module _ (slots : List Slot) where
       (has_cons_cases (spot slots x h.0.0) (spots_of xs h.1) i m)
 
 -- two of the rules are enough: every item has a distance, and the filled slots are as many as the items
-pub owned : (items : List Item) (slots : List Slot) → InFile 0 items → All (λ x. (j : ℕ) × Distance slots x j) items → count_by (λ s. ltb 0 s.place) slots ≡ length items
+pub owned : (items : List Item) (slots : List Slot) → InFile 0 items → AllByRecursion (λ x. (j : ℕ) × Distance slots x j) items → count_by (λ s. ltb 0 s.place) slots ≡ length items
     → (i : ℕ) → Filled slots i → (x : Item) × Has items x × (j : ℕ) × Distance slots x j × (spot slots x j ≡ i)
 owned items slots f h counted i m =
     let F = filled_from 0 slots in

@@ -1,7 +1,7 @@
 -- Slots and records that stand at a place of a file.
 use Rattle.std.proofs.Common.{◌≡◌, ℕ, zero, suc, ◌+◌, ◌*◌, ◌%◌, ◌^◌, ◌<◌, ◌≤◌, List, [], ◌∷◌, ◌++◌, length, fold, sym, refl, ap, ◌∙◌, subst, add-zero, mod-lt, arith}
 use lib.Bits.{bit_xor, xor_lt}
-use Rattle.std.specs.List.{flat_map, AllByRecursion as All}
+use Rattle.std.specs.List.{flat_map, AllByRecursion}
 use Rattle.std.proofs.lemmas.List.{length-append}
 use Rattle.cdb.specs.Records.{Item, hash_of}
 use Rattle.cdb.specs.Tables.{Slot}
@@ -22,7 +22,7 @@ length_slots_at f p (suc n) = ap suc (length_slots_at f (p + 8) n)
 abbrev pub Small : Slot → Type 0
 Small v = (v.hash < 2 ^ 32) × (v.place < 2 ^ 32)
 
-pub slots_read : (f : List ℕ) (p : ℕ) (s : List Slot) → All Small s → At f p (table_bytes s) → slots_at f p (length s) ≡ s
+pub slots_read : (f : List ℕ) (p : ℕ) (s : List Slot) → AllByRecursion Small s → At f p (table_bytes s) → slots_at f p (length s) ≡ s
 slots_read f p [] h a = refl
 slots_read f p (v ∷ s) h a =
     let w = at_both f p (slot_bytes v) (table_bytes s) a in
@@ -83,7 +83,7 @@ pub hash_small : (key : List ℕ) → Bytes key → hash_of key < 2 ^ 32
 unfolding hash_of
 hash_small key b = fold_small 5381 key (omega arith) b
 
-pub items_small : (f : List ℕ) → Bytes f → (p end : ℕ) (rs : List Record) → end < 2 ^ 32 → Records f p end rs → All (λ (y : Item). (hash_of y.key < 2 ^ 32) × (y.place < 2 ^ 32)) (items p rs)
+pub items_small : (f : List ℕ) → Bytes f → (p end : ℕ) (rs : List Record) → end < 2 ^ 32 → Records f p end rs → AllByRecursion (λ (y : Item). (hash_of y.key < 2 ^ 32) × (y.place < 2 ^ 32)) (items p rs)
 items_small f bytes p end [] l h = tt
 items_small f bytes p end (r ∷ rs) l h =
     ((hash_small r.key (at_bytes f bytes (p + 8) r.key h.2), omega (arith, h.4)), items_small f bytes (p + size r) end rs l h.5)

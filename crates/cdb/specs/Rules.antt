@@ -1,6 +1,6 @@
 -- The eight rules of the audit, on the bytes of a file.
 use Rattle.std.specs.Prelude.{◌≡◌, ℕ, ◌+◌, ◌-◌, ◌<◌, ◌≤◌, List, ◌∷◌, ◌++◌, length, count_by, nat_lt}
-use Rattle.std.specs.List.{ContainsAt as Has, AllByRecursion as All}
+use Rattle.std.specs.List.{ContainsAt as Has, AllByRecursion}
 use Rattle.byte_lists.specs.Bytes.{word_at}
 use Rattle.cdb.specs.Records.{Record, Records, Item, items, belonging}
 use Rattle.cdb.specs.Tables.{Slot, slot, Empty, Distance}
@@ -17,7 +17,7 @@ pub record FirstOf (xs : List Item) (Keeps : Item → Type 0) (x : Item) : Type 
   pub before : List Item
   pub after : List Item
   pub among : xs ≡ before ++ x ∷ after
-  pub kept : All Keeps before
+  pub kept : AllByRecursion Keeps before
   pub broken : Keeps x → ⊥
 
 -- every table keeps a rule
@@ -74,8 +74,8 @@ pub record Lawful (f : List ℕ) (rs : List Record) : Type 0 where
   pub long : Rule1 f
   pub entries : Each (Rule2 f)
   pub reads : Rule3 f rs
-  pub placed : All (Rule4 f) (items 2048 rs)
+  pub placed : AllByRecursion (Rule4 f) (items 2048 rs)
   pub counted : Each (Rule5 f rs)
   pub room : Each (Rule6 f)
   pub clear : Each (Rule7 f)
-  pub ordered : All (Rule8 f rs) (items 2048 rs)
+  pub ordered : AllByRecursion (Rule8 f rs) (items 2048 rs)

@@ -1,6 +1,6 @@
 -- The verdict on the bytes of a file.
 use Rattle.std.specs.Prelude.{◌≡◌, ℕ, zero, suc, ◌+◌, ◌*◌, ◌<◌, List, [], ◌∷◌, length}
-use Rattle.std.specs.List.{AllByRecursion as All}
+use Rattle.std.specs.List.{AllByRecursion}
 use Rattle.faults.specs.declared.report.Report.{Report}
 use Rattle.faults.specs.Reports.{report}
 use Rattle.cdb.specs.Records.{Record, Item, items, table_of}
@@ -30,12 +30,12 @@ pub data Judged (f : List ℕ) : Verdict → Type 0 where
   broken_3 : {p : ℕ} → Rule1 f → Each (Rule2 f) → Passes f p → Judged f (refused (report 3 256 p))
   broken_4 : (rs : List Record) {x : Item} → Rule1 f → Each (Rule2 f) → Rule3 f rs
       → FirstOf (items 2048 rs) (Rule4 f) x → Judged f (refused (report 4 (table_of x.key) x.place))
-  broken_5 : (rs : List Record) {t : ℕ} → Rule1 f → Each (Rule2 f) → Rule3 f rs → All (Rule4 f) (items 2048 rs)
+  broken_5 : (rs : List Record) {t : ℕ} → Rule1 f → Each (Rule2 f) → Rule3 f rs → AllByRecursion (Rule4 f) (items 2048 rs)
       → First 256 (Rule5 f rs) t → Judged f (refused (report 5 t (position f t)))
-  broken_6 : (rs : List Record) {t : ℕ} → Rule1 f → Each (Rule2 f) → Rule3 f rs → All (Rule4 f) (items 2048 rs) → Each (Rule5 f rs)
+  broken_6 : (rs : List Record) {t : ℕ} → Rule1 f → Each (Rule2 f) → Rule3 f rs → AllByRecursion (Rule4 f) (items 2048 rs) → Each (Rule5 f rs)
       → First 256 (Rule6 f) t → Judged f (refused (report 6 t (position f t)))
-  broken_7 : (rs : List Record) {t i : ℕ} → Rule1 f → Each (Rule2 f) → Rule3 f rs → All (Rule4 f) (items 2048 rs) → Each (Rule5 f rs) → Each (Rule6 f)
+  broken_7 : (rs : List Record) {t i : ℕ} → Rule1 f → Each (Rule2 f) → Rule3 f rs → AllByRecursion (Rule4 f) (items 2048 rs) → Each (Rule5 f rs) → Each (Rule6 f)
       → First 256 (Rule7 f) t → First (slot_count f t) (Clear f t) i → Judged f (refused (report 7 t (position f t + 8 * i)))
-  broken_8 : (rs : List Record) {x : Item} → Rule1 f → Each (Rule2 f) → Rule3 f rs → All (Rule4 f) (items 2048 rs) → Each (Rule5 f rs) → Each (Rule6 f)
+  broken_8 : (rs : List Record) {x : Item} → Rule1 f → Each (Rule2 f) → Rule3 f rs → AllByRecursion (Rule4 f) (items 2048 rs) → Each (Rule5 f rs) → Each (Rule6 f)
       → Each (Rule7 f) → FirstOf (items 2048 rs) (Rule8 f rs) x → Judged f (refused (report 8 (table_of x.key) x.place))
   keeps_all : (rs : List Record) {n : ℕ} → Lawful f rs → Probes f (items 2048 rs) n → Judged f (accepted (length rs) (slots_below f 256) n)

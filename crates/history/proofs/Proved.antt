@@ -12,8 +12,8 @@ use Rattle.lookup_runs.specs.declared.calls.Call as calls
 use Rattle.lookup_runs.specs.Runs as runs
 use Rattle.lookup_runs.proofs.Giving.{start_done, law_of_lookups, run_wrote}
 use Rattle.areas.specs.Geometry.{area_start}
-use Rattle.shelf.specs.declared.faults.ShelfFault.{ShelfFault}
-use Rattle.shelf.specs.declared.faults.ShelfFault.TheVariants.{File, Size, NoRoot, Entries, Full, Small}
+use Rattle.shelf.specs.declared.fault.ShelfFault.{ShelfFault}
+use Rattle.shelf.specs.declared.fault.ShelfFault.TheVariants.{File, Size, NoRoot, Entries, Full, Small}
 use Rattle.shelf.specs.Reports.{shelf_report, at_root}
 use Rattle.shelf.specs.States.{Live, LiveExtent}
 use Rattle.shelf.specs.Opens.{Opens}

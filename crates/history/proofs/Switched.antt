@@ -19,8 +19,8 @@ use Rattle.building.specs.Entries.{Tabled}
 use Rattle.building.proofs.Counting.{below_none}
 use Rattle.areas.specs.Geometry.{other, area_start, area_size}
 use Rattle.areas.proofs.Rooted.{root_long}
-use Rattle.shelf.specs.declared.faults.ShelfFault.{ShelfFault}
-use Rattle.shelf.specs.declared.faults.ShelfFault.TheVariants.{File, Size, NoRoot, Entries, Full, Small}
+use Rattle.shelf.specs.declared.fault.ShelfFault.{ShelfFault}
+use Rattle.shelf.specs.declared.fault.ShelfFault.TheVariants.{File, Size, NoRoot, Entries, Full, Small}
 use Rattle.shelf.specs.declared.states.Draft.{Draft}
 use Rattle.shelf.specs.declared.states.Finished.{Finished}
 use Rattle.shelf.specs.declared.refusals.PublishRefused.{PublishRefused}

@@ -3,7 +3,7 @@ use Rattle.std.specs.Prelude.{◌≡◌, false, List, [], ◌∷◌, ◌++◌, S
 use Rattle.device.specs.Meanings.{Meaning, Whole}
 use Rattle.cdb.specs.Records.{Record}
 use Rattle.building.specs.declared.entries.Entry.{Entry}
-use Rattle.shelf.specs.declared.faults.ShelfFault.{ShelfFault}
+use Rattle.shelf.specs.declared.fault.ShelfFault.{ShelfFault}
 use Rattle.shelf.specs.declared.states.Shelf.{Shelf}
 use Rattle.shelf.specs.declared.states.Draft.{Draft}
 use Rattle.shelf.specs.declared.states.Finished.{Finished}

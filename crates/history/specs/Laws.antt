@@ -6,7 +6,7 @@ use Rattle.cdb.specs.Records.{Record}
 use Rattle.cdb.specs.Rules.{Lawful}
 use Rattle.areas.specs.Geometry.{area_start}
 use Rattle.areas.specs.Roots.{Names}
-use Rattle.shelf.specs.declared.faults.ShelfFault.{ShelfFault}
+use Rattle.shelf.specs.declared.fault.ShelfFault.{ShelfFault}
 use Rattle.shelf.specs.Reports.{shelf_report}
 use Rattle.shelf.specs.States.{Live, live_of, live_at_draft, live_at_finished}
 use Rattle.shelf.specs.Opens.{Opens}

@@ -1,6 +1,6 @@
 //! The calls of a history, their answers, and the states between them.
 
-use shelf::faults::ShelfFault;
+use shelf::fault::ShelfFault;
 use shelf::states::{Draft, Finished, Shelf};
 
 /// What a call leaves for the next one.

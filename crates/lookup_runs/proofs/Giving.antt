@@ -3,7 +3,7 @@ use Rattle.std.proofs.Common.{◌≡◌, ℕ, zero, suc, ◌+◌, ◌*◌, ◌<�
 use Rattle.std.proofs.lemmas.List.{length-append}
 use Rattle.std.proofs.lemmas.Slice.Eq.{bytes_eq-Decides}
 use Rattle.std.proofs.lemmas.Bool.{cond-true, cond-false, cases_Bool}
-use Rattle.std.specs.List.{ContainsAt as Has, AllByRecursion as All}
+use Rattle.std.specs.List.{ContainsAt as Has, AllByRecursion}
 use Rattle.std.specs.Str.{bytes_eq}
 use Rattle.byte_lists.specs.Bytes.{part, laid}
 use Rattle.byte_lists.proofs.Parts.{part_in}
@@ -58,7 +58,7 @@ nil : (rs : List Answered) → rs ++ [] ≡ rs
 nil [] = refl
 nil (v ∷ rs) = ap (λ (ws : List Answered). v ∷ ws) (nil rs)
 
-each_more : (P : Event → Type 0) (es : List Event) (ev : Event) → All P es → P ev → All P (es ++ ev ∷ [])
+each_more : (P : Event → Type 0) (es : List Event) (ev : Event) → AllByRecursion P es → P ev → AllByRecursion P (es ++ ev ∷ [])
 each_more P [] ev a f = (f, tt)
 each_more P (x ∷ es) ev a f = (a.0, each_more P es ev a.1 f)
 
@@ -137,7 +137,7 @@ run_tied m e key c b c' b' ks es (more {ks = js} {es = fs} {c1 = c1} {b1 = b1} r
     (subst (λ (d : List ℕ). Tied key d (log fs) k ev) (run_wrote m e key c b c1 b1 js fs run) (call_tied n e key (log fs) c1 c' b1 b' k ev does))
 
 -- data that an answer tells of is told by a next with the key
-found_told : (rs : List Record) (key : List ℕ) (es : List Event) (n : ℕ) (x : Found) → All (Lawfully rs key) es → found_by (log es) n ≡ Some x → Has (nexts_of es) (Ok (Some x))
+found_told : (rs : List Record) (key : List ℕ) (es : List Event) (n : ℕ) (x : Found) → AllByRecursion (Lawfully rs key) es → found_by (log es) n ≡ Some x → Has (nexts_of es) (Ok (Some x))
 found_told rs key [] n x a q = let y : ◌≡◌ {A = ℕ} 0 1 = cc in absurd (omega arith)
 found_told rs key (asked (Ok o) ∷ es) zero x a q = subst (λ (v : Option Found). Has (Ok o ∷ nexts_of es) (Ok v)) q (has_head (Ok o) (nexts_of es))
 found_told rs key (asked (Err f) ∷ es) zero x a q = let y : ◌≡◌ {A = ℕ} 0 1 = cc in absurd (omega arith)
@@ -297,7 +297,7 @@ module _ (whole : List ℕ) (rs : List Record) (law : LawfulFile whole rs) (e : 
   -- what has happened after some calls
   record Sofar (es : List Event) (c : Cursor) : Type 0 where
     answers : nexts_of es ≡ in_turn (length (nexts_of es)) (found first)
-    each : All (Lawfully rs key) es
+    each : AllByRecursion (Lawfully rs key) es
     state : State whole rs law e key c (left (length (nexts_of es)) first)
 
   -- an event that is not a next with the key

@@ -1,6 +1,6 @@
 -- The law of lookups: in a lawful file a run of lookup calls gives the data of exactly the records of its key, in file order.
 use Rattle.std.specs.Prelude.{◌≡◌, ℕ, zero, suc, ◌+◌, ◌<◌, ◌≤◌, true, ◌⊎◌, List, [], ◌∷◌, ◌++◌, length, is_ok, Some, None, Ok, Err, Option, Result, ◌≢◌}
-use Rattle.std.specs.List.{AllByRecursion as All}
+use Rattle.std.specs.List.{AllByRecursion}
 use Rattle.byte_lists.specs.Bytes.{part, laid}
 use Rattle.faults.specs.declared.file.FileFault.{FileFault}
 use Rattle.faults.specs.declared.file.FileFault.TheVariants.{Range, OtherKey}
@@ -89,7 +89,7 @@ AllTied key b done (k ∷ ks) (ev ∷ es) = Tied key b done k ev × AllTied key 
 -- the law: what the nexts with the key answer is the data of its records in turn; each other event is as said above
 pub record Gives (rs : List Record) (key : List ℕ) (es : List Event) : Type 0 where
   pub nexts : nexts_of es ≡ in_turn (length (nexts_of es)) (datas 2048 rs key)
-  pub each : All (Lawfully rs key) es
+  pub each : AllByRecursion (Lawfully rs key) es
 
 -- calls, their answers and the buffer, before and after, in a lawful file with these records
 pub record Looks (rs : List Record) (key : List ℕ) (ks : List calls.Call) (ans : List Answer) (b b' : List ℕ) : Type 0 where

@@ -1,6 +1,6 @@
 -- What is read from a file of which one table alone has slots.
 use Rattle.std.proofs.Common.{◌≡◌, ℕ, zero, suc, ◌+◌, ◌-◌, ◌*◌, ◌^◌, ◌<◌, ◌≤◌, List, [], ◌∷◌, ◌++◌, length, get_or, replicate, refl, ap, ◌∙◌, ⊎_elim, arith}
-use Rattle.std.specs.List.{flat_map, AllByRecursion as All}
+use Rattle.std.specs.List.{flat_map, AllByRecursion}
 use Rattle.std.proofs.lemmas.List.{length-append, length-replicate, get_or_at, get_or_append_left, get_or-append_right, get_or-replicate, get_or_past}
 use Rattle.std.proofs.lemmas.Bool.{cases_lt}
 use Rattle.cdb.specs.Records.{Record, record_bytes}
@@ -68,7 +68,7 @@ pub record OneTable (f : List ℕ) (rs : List Record) (u : ℕ) (s : List Slot) 
   pub else' : (t : ℕ) → t < 256 → (t ≡ u → ⊥) → slot_count f t ≡ 0
   pub below : slots_below f 256 ≡ length s
 
-pub one_table : (rs : List Record) (u : ℕ) (s : List Slot) → u < 256 → All Small s → length (flat_map record_bytes rs) + 8 * length s < 2 ^ 31 → OneTable (file_of rs (only_table u s)) rs u s
+pub one_table : (rs : List Record) (u : ℕ) (s : List Slot) → u < 256 → AllByRecursion Small s → length (flat_map record_bytes rs) + 8 * length s < 2 ^ 31 → OneTable (file_of rs (only_table u s)) rs u s
 one_table rs u s lu small short =
     let ss = only_table u s in
     let f = file_of rs ss in

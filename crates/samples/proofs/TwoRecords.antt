@@ -1,6 +1,6 @@
 -- The verdict on a file of two records of one key, by their distances in its one table with slots.
 use Rattle.std.proofs.Common.{◌≡◌, ℕ, ◌+◌, ◌*◌, ◌^◌, ◌<◌, ◌≤◌, true, false, eqb, ltb, ◌⊎◌, List, [], ◌∷◌, length, count_by, sym, refl, ap, ◌∙◌, subst, inl, inr, ⊎_elim, arith}
-use Rattle.std.specs.List.{ContainsAt as Has, flat_map, AllByRecursion as All}
+use Rattle.std.specs.List.{ContainsAt as Has, flat_map, AllByRecursion}
 use Rattle.std.proofs.ByRecursion.{All-get_or}
 use Rattle.std.proofs.lemmas.Bool.{cases_eq, eq-eqb, ne_eqb}
 use Rattle.faults.specs.Reports.{report}
@@ -30,7 +30,7 @@ pub record Holds (key : List ℕ) (t : ℕ) (s : List Slot) (d e : ℕ) : Type 0
   pub belongs : table_of key ≡ t
   pub below : t < 256
   pub short : length (flat_map record_bytes (two_records key)) + 8 * length s < 2 ^ 31
-  pub proper : All Proper s
+  pub proper : AllByRecursion Proper s
   pub counted : count_by (λ (v : Slot). ltb 0 v.place) s ≡ 2
   pub first : Distance s (first_item key) d
   pub second : Distance s (second_item key) e
@@ -55,7 +55,7 @@ module _ (key : List ℕ) (u : ℕ) (s : List Slot) (d e : ℕ) (h : Holds key u
   rule1 : 2048 ≤ length f
   rule1 = omega (arith, one.total)
 
-  rule4 : All (Rule4 f) (items 2048 (two_records key))
+  rule4 : AllByRecursion (Rule4 f) (items 2048 (two_records key))
   rule4 = ((d, first_there), ((e, second_there), tt))
 
   no_slots_else : (t : ℕ) → t < 256 → (t ≡ u → ⊥) → slots_in f t ≡ []

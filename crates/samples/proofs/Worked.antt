@@ -1,6 +1,6 @@
 -- The samples, worked.
 use Rattle.std.proofs.Common.{◌≡◌, ℕ, zero, suc, ◌+◌, ◌^◌, ◌<◌, ◌≤◌, ltb, List, [], ◌∷◌, ◌++◌, length, get_or, set, replicate, count_by, sym, refl, ap, ◌∙◌, subst, ⊎_elim, arith}
-use Rattle.std.specs.List.{AllByRecursion as All}
+use Rattle.std.specs.List.{AllByRecursion}
 use Rattle.std.proofs.ByRecursion.{All-append, All-weaker}
 use Rattle.std.proofs.lemmas.List.{length-replicate, get_or-replicate, get_or_past, replicate_more}
 use Rattle.std.proofs.lemmas.Bool.{cases_lt, cases_eq}
@@ -105,7 +105,7 @@ empty_first_proper = filled_proper 5381 2048 (omega arith) (omega arith) (omega 
 empty_second_proper : Proper (holding 5381 2057)
 empty_second_proper = filled_proper 5381 2057 (omega arith) (omega arith) (omega arith)
 
-all_same : (n : ℕ) (v : Slot) → Proper v → All Proper (replicate n v)
+all_same : (n : ℕ) (v : Slot) → Proper v → AllByRecursion Proper (replicate n v)
 all_same zero v h = tt
 all_same (suc n) v h = (h, all_same n v h)
 

@@ -1,6 +1,6 @@
 -- What is known of the records up to a place, and one more.
 use Rattle.std.proofs.Common.{◌≡◌, ℕ, ◌+◌, ◌-◌, ◌%◌, ◌<◌, ◌≤◌, Bool, true, false, cond, eqb, ◌≢◌, List, [], ◌∷◌, ◌++◌, length, get_or, set, filter, sym, refl, ap, ◌∙◌, subst, ⊎_elim, arith, get_or-set_other, get_or-set_same}
-use Rattle.std.specs.List.{AllByRecursion as All}
+use Rattle.std.specs.List.{AllByRecursion}
 use Rattle.std.proofs.lemmas.List.Elements.{filter-append}
 use Rattle.std.proofs.lemmas.List.{length-append}
 use Rattle.std.proofs.lemmas.Bool.{cases_eq, eq-eqb, ne_eqb}
@@ -19,7 +19,7 @@ pub probes_more : (f : List ℕ) (xs : List Item) (x : Item) (n j : ℕ) → Pro
 probes_more f [] x n j h d = (j, 0, d, refl, omega arith)
 probes_more f (y ∷ xs) x n j h d = (h.0, h.1 + (j + 1), h.2, probes_more f xs x h.1 j h.3 d, omega (arith, h.4))
 
-pub probes_placed : (f : List ℕ) (xs : List Item) (n : ℕ) → Probes f xs n → All (Rule4 f) xs
+pub probes_placed : (f : List ℕ) (xs : List Item) (n : ℕ) → Probes f xs n → AllByRecursion (Rule4 f) xs
 probes_placed f [] n h = tt
 probes_placed f (y ∷ xs) n h = ((h.0, h.2), probes_placed f xs h.1 h.3)
 

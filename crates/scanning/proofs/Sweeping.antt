@@ -1,6 +1,6 @@
 -- Rule 8 over all records.
 use Rattle.std.proofs.Common.{◌≡◌, ℕ, ◌+◌, ◌≤◌, List, [], ◌∷◌, ◌++◌, length, sym, refl, ap, ◌∙◌, subst, inl, inr, ⊎_elim, arith}
-use Rattle.std.specs.List.{ContainsAt as Has, AllByRecursion as All}
+use Rattle.std.specs.List.{ContainsAt as Has, AllByRecursion}
 use Rattle.std.proofs.ByRecursion.{All-push, All-weaker}
 use Rattle.cdb.specs.Records.{Item}
 use Rattle.cdb.specs.Records.{Record, Records, size, items}
@@ -26,7 +26,7 @@ swept_more f p n end low x s e l h =
       before = s.before ++ record_at f p ∷ [];
       reads = subst (λ (i : ℕ). Records f 2048 i (s.before ++ record_at f p ∷ [])) z (records_more f 2048 p s.before (record_at f p) s.reads (record_here f p w));
       most = omega (arith, h.most, s.most);
-      least = subst (λ (xs : List Item). All (P x) xs) (sym it)
+      least = subst (λ (xs : List Item). AllByRecursion (P x) xs) (sym it)
           (All-push (P x) (items 2048 s.before) (item_at f p) (All-weaker (P low) (P x) (λ y a q o. omega (arith, a q o, h.most)) (items 2048 s.before) s.least) h.least);
       from =
           ⊎_elim

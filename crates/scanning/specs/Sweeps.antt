@@ -1,6 +1,6 @@
 -- Walks from record to record.
 use Rattle.std.specs.Prelude.{◌≡◌, ℕ, ◌+◌, ◌<◌, ◌≤◌, ◌⊎◌, List, length, slice_index}
-use Rattle.std.specs.List.{ContainsAt as Has, AllByRecursion as All}
+use Rattle.std.specs.List.{ContainsAt as Has, AllByRecursion}
 use Rattle.byte_lists.specs.Bytes.{word_at}
 use Rattle.cdb.specs.Records.{Record, Records, Item, items, belonging, table_of}
 use Rattle.cdb.specs.Rules.{FirstOf, Rule4}
@@ -41,7 +41,7 @@ pub record Swept (f : List ℕ) (p end low : ℕ) : Type 0 where
   pub before : List Record
   pub reads : Records f 2048 p before
   pub most : low ≤ end
-  pub least : All (λ y. (q : ℕ) → Overtakes f y q → low ≤ q) (items 2048 before)
+  pub least : AllByRecursion (λ y. (q : ℕ) → Overtakes f y q → low ≤ q) (items 2048 before)
   pub from : (low ≡ end) ⊎ ((y : Item) × Has (items 2048 before) y × Overtakes f y low)
 
 -- all records up to end have a distance

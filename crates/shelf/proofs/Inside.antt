@@ -13,8 +13,8 @@ use Rattle.building.specs.Closes.{Closes}
 use Rattle.areas.specs.declared.area.Area.{Area}
 use Rattle.areas.specs.declared.area.Area.TheVariants.{Zero, One}
 use Rattle.areas.specs.Geometry.{other, first_sector, sectors_in, area_start, area_size}
-use Rattle.shelf.specs.declared.faults.ShelfFault.{ShelfFault}
-use Rattle.shelf.specs.declared.faults.ShelfFault.TheVariants.{File, Size, NoRoot, Entries, Full, Small}
+use Rattle.shelf.specs.declared.fault.ShelfFault.{ShelfFault}
+use Rattle.shelf.specs.declared.fault.ShelfFault.TheVariants.{File, Size, NoRoot, Entries, Full, Small}
 use Rattle.shelf.specs.declared.states.Draft.{Draft}
 use Rattle.shelf.specs.declared.states.Finished.{Finished}
 use Rattle.shelf.specs.declared.refusals.AddRefused.{AddRefused}

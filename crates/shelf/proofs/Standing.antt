@@ -15,8 +15,8 @@ use Rattle.writing.proofs.Keeping.{completed_keeps}
 use Rattle.building.specs.declared.entries.Entry.{Entry}
 use Rattle.building.specs.Closes.{Built, Closed, Closes}
 use Rattle.building.proofs.Slotted.{part_same, at_laid}
-use Rattle.shelf.specs.declared.faults.ShelfFault.{ShelfFault}
-use Rattle.shelf.specs.declared.faults.ShelfFault.TheVariants.{File, Size, NoRoot, Entries, Full, Small}
+use Rattle.shelf.specs.declared.fault.ShelfFault.{ShelfFault}
+use Rattle.shelf.specs.declared.fault.ShelfFault.TheVariants.{File, Size, NoRoot, Entries, Full, Small}
 use Rattle.shelf.specs.declared.states.Shelf.{Shelf}
 use Rattle.shelf.specs.declared.states.Draft.{Draft}
 use Rattle.shelf.specs.declared.states.Finished.{Finished}

@@ -6,8 +6,8 @@ use Rattle.device.specs.Meanings.{Meaning}
 use Rattle.cdb.specs.Records.{Record, record_bytes, size, hash_of}
 use Rattle.writing.specs.Runs.{Completed, Interrupted, at_place}
 use Rattle.building.specs.declared.entries.Entry.{Entry}
-use Rattle.shelf.specs.declared.faults.ShelfFault.{ShelfFault}
-use Rattle.shelf.specs.declared.faults.ShelfFault.TheVariants.{File, Size, NoRoot, Entries, Full, Small}
+use Rattle.shelf.specs.declared.fault.ShelfFault.{ShelfFault}
+use Rattle.shelf.specs.declared.fault.ShelfFault.TheVariants.{File, Size, NoRoot, Entries, Full, Small}
 use Rattle.shelf.specs.declared.states.Draft.{Draft}
 use Rattle.shelf.specs.declared.refusals.AddRefused.{AddRefused}
 use Rattle.shelf.specs.States.{live_at_draft, file_start, file_room, Added}

@@ -6,8 +6,8 @@ use Rattle.faults.specs.Reports.{located}
 use Rattle.device.specs.Meanings.{Meaning}
 use Rattle.building.specs.declared.entries.Entry.{Entry}
 use Rattle.building.specs.Closes.{Closed, Closes}
-use Rattle.shelf.specs.declared.faults.ShelfFault.{ShelfFault}
-use Rattle.shelf.specs.declared.faults.ShelfFault.TheVariants.{File, Size, NoRoot, Entries, Full, Small}
+use Rattle.shelf.specs.declared.fault.ShelfFault.{ShelfFault}
+use Rattle.shelf.specs.declared.fault.ShelfFault.TheVariants.{File, Size, NoRoot, Entries, Full, Small}
 use Rattle.shelf.specs.declared.states.Draft.{Draft}
 use Rattle.shelf.specs.declared.states.Finished.{Finished}
 use Rattle.shelf.specs.declared.refusals.FinishRefused.{FinishRefused}

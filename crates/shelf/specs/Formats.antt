@@ -8,8 +8,8 @@ use Rattle.device.specs.Meanings.{Meaning, Written}
 use Rattle.writing.specs.Runs.{Completed, Interrupted, at_place}
 use Rattle.building.specs.Empty.{empty_file}
 use Rattle.areas.specs.declared.area.Area.TheVariants.{Zero}
-use Rattle.shelf.specs.declared.faults.ShelfFault.{ShelfFault}
-use Rattle.shelf.specs.declared.faults.ShelfFault.TheVariants.{File, Size, NoRoot, Entries, Full, Small}
+use Rattle.shelf.specs.declared.fault.ShelfFault.{ShelfFault}
+use Rattle.shelf.specs.declared.fault.ShelfFault.TheVariants.{File, Size, NoRoot, Entries, Full, Small}
 use Rattle.shelf.specs.declared.states.Shelf.{Shelf}
 use Rattle.areas.specs.Geometry.{root_bytes}
 use Rattle.shelf.specs.Reports.{at_root}

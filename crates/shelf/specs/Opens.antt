@@ -2,8 +2,8 @@
 use Rattle.std.specs.Prelude.{◌≡◌, Some, None, Ok, Err, Result}
 use Rattle.faults.specs.declared.device.DeviceFault.{DeviceFault}
 use Rattle.device.specs.Meanings.{Meaning, refusal}
-use Rattle.shelf.specs.declared.faults.ShelfFault.{ShelfFault}
-use Rattle.shelf.specs.declared.faults.ShelfFault.TheVariants.{File, Size, NoRoot, Entries, Full, Small}
+use Rattle.shelf.specs.declared.fault.ShelfFault.{ShelfFault}
+use Rattle.shelf.specs.declared.fault.ShelfFault.TheVariants.{File, Size, NoRoot, Entries, Full, Small}
 use Rattle.shelf.specs.declared.states.Shelf.{Shelf}
 use Rattle.areas.specs.Roots.{Names, NamesNone}
 use Rattle.shelf.specs.Reports.{at_root}

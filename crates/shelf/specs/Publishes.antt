@@ -9,8 +9,8 @@ use Rattle.file.specs.declared.extents.Extent.{Extent}
 use Rattle.auditing.specs.declared.audits.Counts.{Counts}
 use Rattle.auditing.specs.Audits.{Audited}
 use Rattle.areas.specs.Geometry.{other, root_bytes}
-use Rattle.shelf.specs.declared.faults.ShelfFault.{ShelfFault}
-use Rattle.shelf.specs.declared.faults.ShelfFault.TheVariants.{File, Size, NoRoot, Entries, Full, Small}
+use Rattle.shelf.specs.declared.fault.ShelfFault.{ShelfFault}
+use Rattle.shelf.specs.declared.fault.ShelfFault.TheVariants.{File, Size, NoRoot, Entries, Full, Small}
 use Rattle.shelf.specs.declared.states.Shelf.{Shelf}
 use Rattle.shelf.specs.declared.states.Finished.{Finished}
 use Rattle.shelf.specs.declared.refusals.PublishRefused.{PublishRefused}

@@ -5,8 +5,8 @@ use Rattle.faults.specs.declared.file.FileFault.{FileFault}
 use Rattle.faults.specs.declared.file.Located.{Located}
 use Rattle.faults.specs.Reports.{report, located, file_report}
 use Rattle.writing.specs.Runs.{at_place}
-use Rattle.shelf.specs.declared.faults.ShelfFault.{ShelfFault}
-use Rattle.shelf.specs.declared.faults.ShelfFault.TheVariants as shelf
+use Rattle.shelf.specs.declared.fault.ShelfFault.{ShelfFault}
+use Rattle.shelf.specs.declared.fault.ShelfFault.TheVariants as shelf
 
 -- a fault from below is told as it is told there
 abbrev pub shelf_report : ShelfFault → Report

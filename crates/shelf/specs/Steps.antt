@@ -11,8 +11,8 @@ use Rattle.auditing.specs.declared.audits.Counts.{Counts}
 use Rattle.building.specs.declared.entries.Entry.{Entry}
 use Rattle.building.specs.Closes.{Closed}
 use Rattle.building.specs.Empty.{empty_file}
-use Rattle.shelf.specs.declared.faults.ShelfFault.{ShelfFault}
-use Rattle.shelf.specs.declared.faults.ShelfFault.TheVariants.{File, Size, NoRoot, Entries, Full, Small}
+use Rattle.shelf.specs.declared.fault.ShelfFault.{ShelfFault}
+use Rattle.shelf.specs.declared.fault.ShelfFault.TheVariants.{File, Size, NoRoot, Entries, Full, Small}
 use Rattle.shelf.specs.declared.states.Draft.{Draft}
 use Rattle.shelf.specs.declared.states.Finished.{Finished}
 use Rattle.shelf.specs.States.{live_at_draft, live_at_finished, file_start}

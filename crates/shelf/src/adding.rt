@@ -6,7 +6,7 @@ ghost use Rattle.shelf.specs.States.{live_at_draft, file_room};
 ghost use Rattle.shelf.specs.Adds.{Adds};
 ghost use Rattle.shelf.specs.Steps.{Stores};
 
-use crate::faults::ShelfFault;
+use crate::fault::ShelfFault;
 use crate::refusals::AddRefused;
 use crate::states::Draft;
 use areas::places::area_size;

@@ -6,7 +6,7 @@ ghost use Rattle.shelf.specs.Finishes.{Finishes};
 ghost use Rattle.shelf.specs.Drafts.{FinishAfterAddsIsLawful};
 ghost use Rattle.shelf.specs.Steps.{ClosesFile, EndsFile};
 
-use crate::faults::ShelfFault;
+use crate::fault::ShelfFault;
 use crate::refusals::FinishRefused;
 use crate::states::{Draft, Finished};
 use building::closing::close;

@@ -5,7 +5,7 @@ ghost use Rattle.std.specs.Prelude.{◌≤◌};
 ghost use Rattle.shelf.specs.Formats.{Formats};
 ghost use Rattle.shelf.specs.Steps.{WritesShelf};
 
-use crate::faults::ShelfFault;
+use crate::fault::ShelfFault;
 use crate::states::Shelf;
 use areas::area::Area;
 use areas::roots::write_root;

@@ -4,7 +4,7 @@
 pub mod adding;
 pub mod drafting;
 pub mod ending;
-pub mod faults;
+pub mod fault;
 pub mod finishing;
 pub mod formatting;
 pub mod opening;

@@ -4,7 +4,7 @@ ghost use Rattle.std.specs.Prelude.{◌≡◌};
 ghost use Rattle.device.specs.Meanings.{Whole};
 ghost use Rattle.shelf.specs.Opens.{Opens};
 
-use crate::faults::ShelfFault;
+use crate::fault::ShelfFault;
 use crate::states::Shelf;
 use areas::roots::read_root;
 use device::device::Device;

@@ -5,7 +5,7 @@ ghost use Rattle.device.specs.Meanings.{Whole};
 ghost use Rattle.shelf.specs.Publishes.{ends_draft, Publishes};
 ghost use Rattle.shelf.specs.Steps.{AuditsDraft, WritesNextRoot, Switches};
 
-use crate::faults::ShelfFault;
+use crate::fault::ShelfFault;
 use crate::refusals::PublishRefused;
 use crate::states::{Finished, Shelf};
 use areas::roots::write_root;

@@ -1,6 +1,6 @@
 //! Refused calls, with the state that comes back.
 
-use crate::faults::ShelfFault;
+use crate::fault::ShelfFault;
 use crate::states::{Draft, Finished};
 
 /// A refused add, with its draft.

@@ -1,6 +1,6 @@
 -- A lent list that is filled with the records of a text.
 use Rattle.std.proofs.Common.{◌≡◌, ℕ, ◌+◌, ◌<◌, ◌≤◌, List, [], ◌∷◌, ◌++◌, map, length, take, drop, set, Ok, Err, Result, sym, refl, ap, ◌∙◌, subst, arith}
-use Rattle.std.specs.List.{AllByRecursion as All}
+use Rattle.std.specs.List.{AllByRecursion}
 use Rattle.std.proofs.lemmas.List.{take_more_set, map_push, drop-set-lt, length-set, length-map, length-take-le, drop-drop}
 use Rattle.cdb.specs.Records as cdb
 use Rattle.text.specs.declared.fault.TextFault.{TextFault}
@@ -15,7 +15,7 @@ use Rattle.text.proofs.Proved.{Read}
 use Rattle.text.proofs.Counting.{read_push}
 
 -- a text is that of one list
-pub one_list : (rs ss : List cdb.Record) → All Proper rs → All Proper ss → text rs ≡ text ss → rs ≡ ss
+pub one_list : (rs ss : List cdb.Record) → AllByRecursion Proper rs → AllByRecursion Proper ss → text rs ≡ text ss → rs ≡ ss
 one_list [] [] w v e = refl
 one_list [] (s ∷ ss) w v e = absurd (different [] s (text ss) e)
 one_list (r ∷ rs) [] w v e = absurd (different [] r (text rs) (sym e))

@@ -1,7 +1,7 @@
 -- Lines before a text: what a state of the lexer has seen, and how it can go on.
 use Rattle.std.proofs.Common.{◌≡◌, ℕ, ◌-◌, ◌^◌, ◌<◌, ◌⊎◌, List, [], ◌∷◌, ◌++◌, length, replicate, Some, None, decimal, sym, refl, ap, ◌∙◌, subst, inl, inr, ⊎_elim, append_assoc, append-nil, arith, length-append}
 use lib.ListN.{length-replicate}
-use Rattle.std.specs.List.{AllByRecursion as All}
+use Rattle.std.specs.List.{AllByRecursion}
 use Rattle.std.proofs.ByRecursion.{All-append, All-from_get_or}
 use Rattle.std.proofs.lemmas.List.{get_or-replicate}
 use Rattle.byte_lists.specs.Bytes.{Bytes}
@@ -72,7 +72,7 @@ pub record Lined (t : List ℕ) : Type 0 where
 pub opens : (t : List ℕ) → Text t → (t ≡ 10 ∷ []) ⊎ ((l : Lined t) × Text l.rest)
 opens t x = opens_by t x.0 x.1.0 x.1.1
   where
-    opens_by : (t : List ℕ) (rs : List cdb.Record) → All Proper rs → t ≡ text rs → (t ≡ 10 ∷ []) ⊎ ((l : Lined t) × Text l.rest)
+    opens_by : (t : List ℕ) (rs : List cdb.Record) → AllByRecursion Proper rs → t ≡ text rs → (t ≡ 10 ∷ []) ⊎ ((l : Lined t) × Text l.rest)
     opens_by t [] w e = inl e
     opens_by t (r ∷ rs) w e =
         inr (record { key = r.key; data' = r.data'; rest = text rs; proper = w.0; is = e ∙ line_onto r (text rs) }, (rs, (w.1, refl)))

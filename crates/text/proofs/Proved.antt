@@ -1,6 +1,6 @@
 -- The laws of the text reader.
 use Rattle.std.proofs.Common.{◌≡◌, ℕ, ◌+◌, ◌-◌, ◌≤◌, List, [], ◌∷◌, ◌++◌, map, length, drop, Some, Ok, Err, Result, sym, refl, ap, ◌∙◌, subst, arith}
-use Rattle.std.specs.List.{AllByRecursion as All}
+use Rattle.std.specs.List.{AllByRecursion}
 use Rattle.cdb.specs.Records as cdb
 use Rattle.text.specs.declared.fault.TextFault.{TextFault}
 use Rattle.text.specs.declared.fault.TextFault.TheVariants.{Malformed, Short, Long}
@@ -20,7 +20,7 @@ put' t p q Long h = absurd h
 
 -- what calls handed out stands before what is left
 pub record Read (t : List ℕ) (p q : ℕ) (rs : List cdb.Record) : Type 0 where
-  pub proper : All Proper rs
+  pub proper : AllByRecursion Proper rs
   pub is : drop p t ≡ lines rs (drop q t)
   pub within : p ≤ length t → q ≤ length t
 

@@ -1,6 +1,6 @@
 -- Lines before a text: what holds of the rest holds of the whole.
 use Rattle.std.proofs.Common.{◌≡◌, ℕ, ◌-◌, ◌<◌, ◌≤◌, List, [], ◌∷◌, ◌++◌, length, take, drop, sym, refl, ap, ◌∙◌, subst, ⊎_elim, append_assoc, arith, length-append, length-drop}
-use Rattle.std.specs.List.{AllByRecursion as All}
+use Rattle.std.specs.List.{AllByRecursion}
 use Rattle.std.proofs.lemmas.Bool.{cases_lt}
 use Rattle.std.proofs.lemmas.List.{take_at, take-append-drop}
 use Rattle.cdb.specs.Records.{Record}
@@ -27,7 +27,7 @@ pub text_lines : (rs : List Record) → text rs ≡ lines rs (10 ∷ [])
 text_lines [] = refl
 text_lines (r ∷ rs) = ap (λ (x : List ℕ). line r ++ x) (text_lines rs)
 
-pub peel : (rs : List Record) (x : List ℕ) → All Proper rs → Text (lines rs x) → Text x
+pub peel : (rs : List Record) (x : List ℕ) → AllByRecursion Proper rs → Text (lines rs x) → Text x
 peel [] x w g = g
 peel (r ∷ rs) x w g =
     peel rs x w.1
@@ -37,7 +37,7 @@ peel (r ∷ rs) x w g =
     subst Text (sym o.2) l.1)
     (opens _ g))
 
-pub wrap : (rs : List Record) (x : List ℕ) → All Proper rs → Text x → Text (lines rs x)
+pub wrap : (rs : List Record) (x : List ℕ) → AllByRecursion Proper rs → Text x → Text (lines rs x)
 wrap [] x w g = g
 wrap (r ∷ rs) x w g = subst Text (sym (line_onto r (lines rs x))) (closes r.key r.data' (lines rs x) w.0 (wrap rs x w.1 g))
 
@@ -56,7 +56,7 @@ fronts rs t q m i a b =
     let l : length (lines rs (take (m - q) (drop q t))) ≡ m = omega (arith, ap length s) in
     ap (take m) s ∙ take_at (lines rs (take (m - q) (drop q t))) (drop (m - q) (drop q t)) m l
 
-pub whole_refused : (rs : List Record) (t : List ℕ) (q e : ℕ) → All Proper rs → t ≡ lines rs (drop q t) → q ≤ length t → q ≤ e → Refused (drop q t) (e - q) → Refused t e
+pub whole_refused : (rs : List Record) (t : List ℕ) (q e : ℕ) → AllByRecursion Proper rs → t ≡ lines rs (drop q t) → q ≤ length t → q ≤ e → Refused (drop q t) (e - q) → Refused t e
 whole_refused rs t q e w i a b r =
     let h : e ≤ length t = omega (arith, r.within, length-drop q t) in
     record {

@@ -1,6 +1,6 @@
 -- The text of a record list, and where what is no text is refused.
 use Rattle.std.specs.Prelude.{◌≡◌, ℕ, ◌^◌, ◌<◌, ◌≤◌, List, [], ◌∷◌, ◌++◌, length, take, decimal}
-use Rattle.std.specs.List.{AllByRecursion as All}
+use Rattle.std.specs.List.{AllByRecursion}
 use Rattle.byte_lists.specs.Bytes.{Bytes}
 use Rattle.cdb.specs.Records.{Record}
 
@@ -19,7 +19,7 @@ Proper r = Bytes r.key × Bytes r.data' × (length r.key < 2 ^ 32) × (length r.
 
 -- t is the text of these records
 abbrev pub TextOf : List ℕ → List Record → Type 0
-TextOf t rs = All Proper rs × (t ≡ text rs)
+TextOf t rs = AllByRecursion Proper rs × (t ≡ text rs)
 
 -- t is a text
 abbrev pub Text : List ℕ → Type 0

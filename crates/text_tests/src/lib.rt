@@ -6,6 +6,6 @@ mod lists;
 #[cfg(test)]
 mod outcomes;
 #[cfg(test)]
-mod records;
+mod readings;
 #[cfg(test)]
 mod texts;

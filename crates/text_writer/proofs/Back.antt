@@ -1,6 +1,6 @@
 -- What was read is written back, and what was written is read back.
 use Rattle.std.proofs.Common.{◌≡◌, ℕ, ◌+◌, ◌<◌, ◌≤◌, List, [], ◌∷◌, ◌++◌, map, length, get_or, take, drop, Ok, Err, Result, sym, refl, ap, ◌∙◌, subst, append_assoc, arith, length-append}
-use Rattle.std.specs.List.{flat_map, AllByRecursion as All}
+use Rattle.std.specs.List.{flat_map, AllByRecursion}
 use Rattle.std.proofs.lemmas.List.{take_at, at_drop_more, at_drop_all, length-map, get_or-map, map_more, flat_map_more}
 use Rattle.std.proofs.ByRecursion.{All-get_or, All-push}
 use Rattle.byte_lists.specs.Bytes.{laid}
@@ -42,7 +42,7 @@ list_back rs room b (Err f) c w = tt
 abbrev pub blank : LentRecord
 blank = record { key = record { ref_ptr = (0, 0); now = [] }; «data» = record { ref_ptr = (0, 0); now = [] } }
 
-pub proper_at : (xs : List LentRecord) (i : ℕ) (d : LentRecord) → i < length xs → All Proper (map lent xs) → Proper (lent (get_or xs i d))
+pub proper_at : (xs : List LentRecord) (i : ℕ) (d : LentRecord) → i < length xs → AllByRecursion Proper (map lent xs) → Proper (lent (get_or xs i d))
 proper_at xs i d l h =
     let m : i < length (map lent xs) = omega (arith, length-map xs lent) in
     subst Proper (get_or-map lent xs i d (lent d) l) (All-get_or Proper (map lent xs) i (lent d) m h)
@@ -56,15 +56,15 @@ text_from xs i d l =
 pub text_end : (xs : List LentRecord) (i : ℕ) → length xs ≤ i → length (text (map lent (drop i xs))) ≡ 1
 text_end xs i l = at_drop_all (λ (ys : List LentRecord). length (text (map lent ys))) xs i l
 
-pub all_proper_more : (xs : List LentRecord) (i : ℕ) (d : LentRecord) → i < length xs → All Proper (map lent (take i xs)) → Proper (lent (get_or xs i d)) → All Proper (map lent (take (i + 1) xs))
-all_proper_more xs i d l a b = subst (All Proper) (sym (map_more lent xs i d l)) (All-push Proper (map lent (take i xs)) (lent (get_or xs i d)) a b)
+pub all_proper_more : (xs : List LentRecord) (i : ℕ) (d : LentRecord) → i < length xs → AllByRecursion Proper (map lent (take i xs)) → Proper (lent (get_or xs i d)) → AllByRecursion Proper (map lent (take (i + 1) xs))
+all_proper_more xs i d l a b = subst (AllByRecursion Proper) (sym (map_more lent xs i d l)) (All-push Proper (map lent (take i xs)) (lent (get_or xs i d)) a b)
 
 pub joined_lines_more : (xs : List LentRecord) (i : ℕ) (d : LentRecord) → i < length xs
     → flat_map line (map lent (take (i + 1) xs)) ≡ flat_map line (map lent (take i xs)) ++ line (lent (get_or xs i d))
 joined_lines_more xs i d l = ap (flat_map line) (map_more lent xs i d l) ∙ sym (flat_map_more line [] (map lent (take i xs)) (lent (get_or xs i d)))
 
 -- the lines of all records, then a line feed
-pub whole_text : (rs : List Record) (b b₁ b₂ : List ℕ) (at n room : ℕ) → All Proper rs → length (text rs) ≤ room → room ≤ length b
+pub whole_text : (rs : List Record) (b b₁ b₂ : List ℕ) (at n room : ℕ) → AllByRecursion Proper rs → length (text rs) ≤ room → room ≤ length b
     → at + 1 ≡ length (text rs) → b₁ ≡ laid b 0 (flat_map line rs) → n ≡ at + 1 → b₂ ≡ laid b₁ at (10 ∷ []) → Writes rs room b (Ok n) b₂
 whole_text rs b b₁ b₂ at n room w l m p i q j =
     let e : length (text rs) ≡ length (flat_map line rs) + 1 = ap length (text_joined rs) ∙ length-append (flat_map line rs) (10 ∷ []) in

@@ -1,6 +1,6 @@
 -- What the text writer answers.
 use Rattle.std.specs.Prelude.{◌≡◌, ℕ, ◌<◌, ◌≤◌, List, map, length, take, Ok, Err, Result}
-use Rattle.std.specs.List.{AllByRecursion as All}
+use Rattle.std.specs.List.{AllByRecursion}
 use Rattle.byte_lists.specs.Bytes.{laid}
 use Rattle.cdb.specs.Records.{Record}
 use Rattle.text.specs.declared.fault.TextFault.{TextFault}
@@ -13,10 +13,10 @@ use Rattle.text.specs.Wholes.{Reads}
 -- the text of the records is laid over the start of a buffer b that has room for so many bytes, which turns it into c;
 -- or a key or data is too long, or the buffer is too short, and nothing changes
 abbrev pub Writes : List Record → ℕ → List ℕ → Result ℕ TextFault → List ℕ → Type 0
-Writes rs room b (Ok n) c = All Proper rs × (n ≡ length (text rs)) × (n ≤ room) × (c ≡ laid b 0 (text rs))
+Writes rs room b (Ok n) c = AllByRecursion Proper rs × (n ≡ length (text rs)) × (n ≤ room) × (c ≡ laid b 0 (text rs))
 Writes rs room b (Err (Malformed e)) c = ⊥
-Writes rs room b (Err (Short n)) c = All Proper rs × (room < length (text rs)) × (n ≡ room) × (c ≡ b)
-Writes rs room b (Err Long) c = (All Proper rs → ⊥) × (c ≡ b)
+Writes rs room b (Err (Short n)) c = AllByRecursion Proper rs × (room < length (text rs)) × (n ≡ room) × (c ≡ b)
+Writes rs room b (Err Long) c = (AllByRecursion Proper rs → ⊥) × (c ≡ b)
 
 -- what was read from a text gives that text back, byte for byte
 abbrev pub GivesTheTextBack : List Record → ℕ → Result ℕ TextFault → List ℕ → Type 0

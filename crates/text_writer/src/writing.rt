@@ -1,7 +1,7 @@
 //! The text writer.
 
 ghost use Rattle.std.specs.Prelude.{◌≡◌, ◌+◌, ◌≤◌, map, length, Decides};
-ghost use Rattle.std.specs.List.{flat_map, AllByRecursion as All};
+ghost use Rattle.std.specs.List.{flat_map, AllByRecursion};
 ghost use Rattle.byte_lists.specs.Bytes.{laid};
 ghost use Rattle.text.specs.Texts.{Proper, line, text};
 ghost use Rattle.text.specs.Readings.{lent};
@@ -45,7 +45,7 @@ fn write_within(
 
 /// Whether the lengths of all keys and data are words.
 fn all_proper(records: &[LentRecord<'_>]) -> bool
-    ensures { Decides result (All Proper (map lent records.now)) }
+    ensures { Decides result (AllByRecursion Proper (map lent records.now)) }
 {
     for one in records {
         if !is_proper(*one) {
@@ -65,7 +65,7 @@ fn is_proper(one: LentRecord<'_>) -> bool
 
 /// Whether the text has room.
 fn all_fit(records: &[LentRecord<'_>], room: usize) -> bool
-    requires { All Proper (map lent records.now) }
+    requires { AllByRecursion Proper (map lent records.now) }
     ensures { Decides result (length (text (map lent records.now)) ≤ room) }
 {
     let mut left = room;
@@ -81,7 +81,7 @@ fn all_fit(records: &[LentRecord<'_>], room: usize) -> bool
 
 /// Lays the lines of the records into the buffer; the place behind them.
 fn put_lines(records: &[LentRecord<'_>], buffer: &mut [u8]) -> usize
-    requires proper { All Proper (map lent records.now) }
+    requires proper { AllByRecursion Proper (map lent records.now) }
     requires fits { length (text (map lent records.now)) ≤ length buffer.old }
     ensures place { result + 1 ≡ length (text (map lent records.now)) }
     ensures after { buffer.new ≡ laid buffer.old 0 (flat_map line (map lent records.now)) }

@@ -1,5 +1,5 @@
 use Rattle.std.proofs.Common.{List, map, refl, subst}
-use Rattle.std.specs.List.{AllByRecursion as All}
+use Rattle.std.specs.List.{AllByRecursion}
 use Rattle.std.proofs.lemmas.Bool.{false≢true}
 use Rattle.std.proofs.lemmas.List.{take_all}
 use Rattle.text.specs.declared.lent.LentRecord.{LentRecord}
@@ -19,6 +19,6 @@ loop-one-preserved c = all_proper_more c.args.records.now c.loop-one.one-index b
 
 pub returns : goal.returns
 returns c = (
-  (λ e. subst (λ (xs : List LentRecord). All Proper (map lent xs)) (take_all c.loop-one.one-index c.args.records.now c.loop-one-test.false) c.loop-one.invariant),
+  (λ e. subst (λ (xs : List LentRecord). AllByRecursion Proper (map lent xs)) (take_all c.loop-one.one-index c.args.records.now c.loop-one-test.false) c.loop-one.invariant),
   λ h. refl,
 )

@@ -2,7 +2,7 @@ use Rattle.std.proofs.Common.{List, length, take, ap, ◌∙◌, subst, inr, ari
 use Rattle.cdb.specs.Verdicts.{Judged}
 use Rattle.answering.specs.Answers.{answer_verdict}
 use Rattle.answering.proofs.Laid.{front_laid}
-use Rattle.answering.proofs.auditing.audit_input.Goals as goal
+use Rattle.answering.proofs.input.audit_input.Goals as goal
 
 pub returns : goal.returns
 returns c =

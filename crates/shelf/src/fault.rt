@@ -1,7 +1,7 @@
 //! What a shelf refuses.
 
 ghost use Rattle.std.specs.Prelude.{◌≡◌};
-ghost use Rattle.shelf.specs.declared.faults.ShelfFault.TheVariants.{File as by_file};
+ghost use Rattle.shelf.specs.declared.fault.ShelfFault.TheVariants.{File as by_file};
 ghost use Rattle.shelf.specs.Reports.{shelf_report};
 
 use faults::file::{FileFault, Located};
