@@ -9,6 +9,7 @@ pub fn know_bytes(bytes: &[u8])
 {
     for b in bytes {
         let _byte = *b;
+        prove!(_byte == *b);
     }
 }
 
