@@ -1,4 +1,4 @@
-//! The audit and the lookup by number for a file in memory, and both for C.
+//! The audit and the lookup by number for a file in memory, and both as C is told.
 #![tactic(auto)]
 
 pub mod exports;
