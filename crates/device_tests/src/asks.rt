@@ -1,8 +1,8 @@
 //! What the tests ask of any device, and the answers that it must give.
 
+use checks::{check, check_eq};
 use device::device::{Device, WritableDevice};
 use faults::device::DeviceFault;
-use std::process::Abort;
 use std::test::Fail;
 
 /// An answer to a question.
@@ -28,50 +28,39 @@ pub(crate) enum Ask {
 }
 
 /// Asks in turn.
-pub(crate) fn expect<D: WritableDevice>(
-    rt: &impl Abort,
-    device: &mut D,
-    asks: &[Ask],
-) -> Result<(), Fail>
+pub(crate) fn expect<D: WritableDevice>(device: &mut D, asks: &[Ask]) -> Result<(), Fail>
     requires { D.Device.sound device.old }
     ensures { D.Device.sound device.new }
 {
     for ask in asks {
-        expect_one(rt, device, *ask)?;
+        expect_one(device, *ask)?;
     }
     Ok(())
 }
 
-fn expect_one<D: WritableDevice>(rt: &impl Abort, device: &mut D, ask: Ask) -> Result<(), Fail>
+fn expect_one<D: WritableDevice>(device: &mut D, ask: Ask) -> Result<(), Fail>
     requires { D.Device.sound device.old }
     ensures { D.Device.sound device.new }
 {
     match ask {
-        Ask::State(sector, want) => expect_state(rt, device, sector, want),
-        Ask::Read(place, n, want) => expect_read(rt, device, place, n, want),
-        Ask::Write(place, n, byte, want) => expect_write(rt, device, place, n, byte, want),
-        Ask::Byte(place, want) => expect_byte(rt, device, place, want),
+        Ask::State(sector, want) => expect_state(device, sector, want),
+        Ask::Read(place, n, want) => expect_read(device, place, n, want),
+        Ask::Write(place, n, byte, want) => expect_write(device, place, n, byte, want),
+        Ask::Byte(place, want) => expect_byte(device, place, want),
     }
 }
 
 /// The answer that a sector's state must give.
-pub(crate) fn expect_state<D: Device>(
-    rt: &impl Abort,
-    device: &mut D,
-    sector: u32,
-    want: Answer,
-) -> Result<(), Fail>
+pub(crate) fn expect_state<D: Device>(device: &mut D, sector: u32, want: Answer) -> Result<(), Fail>
     requires { D.Device.sound device.old }
     ensures { D.Device.sound device.new }
 {
     let got = device.state(sector);
-    assert_eq!(rt; got, want);
-    Ok(())
+    check_eq(got, want)
 }
 
 /// The answer that a read must give; one that is refused leaves the buffer.
 pub(crate) fn expect_read<D: Device>(
-    rt: &impl Abort,
     device: &mut D,
     place: u32,
     n: usize,
@@ -82,13 +71,10 @@ pub(crate) fn expect_read<D: Device>(
 {
     let mut buffer = [170; 600];
     let got = read_part(device, place, &mut buffer, n);
-    assert_eq!(rt; got, want);
+    check_eq(got, want)?;
     match got {
         Ok(()) => Ok(()),
-        Err(_) => {
-            assert!(rt; is_filled(&buffer, 170));
-            Ok(())
-        },
+        Err(_) => { check(is_filled(&buffer, 170)) },
     }
 }
 
@@ -102,7 +88,6 @@ fn read_part<D: Device>(device: &mut D, place: u32, buffer: &mut [u8], n: usize)
 }
 
 fn expect_write<D: WritableDevice>(
-    rt: &impl Abort,
     device: &mut D,
     place: u32,
     n: usize,
@@ -114,18 +99,16 @@ fn expect_write<D: WritableDevice>(
 {
     let buffer = [byte; 600];
     let got = device.write(place, &buffer[0..n.min(600)]);
-    assert_eq!(rt; got, want);
-    Ok(())
+    check_eq(got, want)
 }
 
-fn expect_byte<D: Device>(rt: &impl Abort, device: &mut D, place: u32, want: u8) -> Result<(), Fail>
+fn expect_byte<D: Device>(device: &mut D, place: u32, want: u8) -> Result<(), Fail>
     requires { D.Device.sound device.old }
     ensures { D.Device.sound device.new }
 {
     let mut piece = [0; 1];
     device.read(place, &mut piece)?;
-    assert_eq!(rt; piece[0], want);
-    Ok(())
+    check_eq(piece[0], want)
 }
 
 /// Whether every byte is this one.

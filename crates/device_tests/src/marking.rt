@@ -3,12 +3,12 @@
 ghost use Rattle.marks.specs.Layers.{sound_over};
 
 use crate::asks::*;
+use checks::check_eq;
 use device::device::Device;
 use faults::device::DeviceFault;
 use marks::fault::MarkFault;
 use marks::layer::Marked;
 use memory::reading::ReadMemory;
-use std::process::Abort;
 use std::test::Fail;
 
 /// Marks the sectors from one to another; each must be done.
@@ -23,24 +23,22 @@ fn mark_up_to<D: Device>(device: &mut Marked<D>, from: u32, to: u32) -> Result<(
 }
 
 /// The first sectors, up to one, must be bad, and that one not.
-fn expect_bad_up_to<D: Device>(rt: &impl Abort, device: &mut D, to: u8) -> Result<(), Fail>
+fn expect_bad_up_to<D: Device>(device: &mut D, to: u8) -> Result<(), Fail>
     requires { D.Device.sound device.old }
     ensures { D.Device.sound device.new }
 {
     for sector in 0..to {
         expect_state(
-            rt,
             device,
             sector as u32,
             Err(DeviceFault::Bad(512 * sector as u32)),
         )?;
     }
-    expect_state(rt, device, to as u32, DONE)
+    expect_state(device, to as u32, DONE)
 }
 
 /// The answers that marking sectors must give.
 fn expect_marks<D: Device>(
-    rt: &impl Abort,
     device: &mut Marked<D>,
     cases: &[(u32, Result<(), MarkFault>)],
 ) -> Result<(), Fail>
@@ -49,19 +47,18 @@ fn expect_marks<D: Device>(
 {
     for (sector, want) in cases {
         let got = device.mark(*sector);
-        assert_eq!(rt; got, *want);
+        check_eq(got, *want)?;
     }
     Ok(())
 }
 
 #[test]
-fn sixteen_marks(rt: HostRuntime) -> Result<(), Fail> {
+fn sixteen_marks() -> Result<(), Fail> {
     let bytes = [1; 9216];
     let mut device = Marked::new(ReadMemory::new(&bytes));
-    expect_marks(&rt, &mut device, &[(18, Err(MarkFault::Range))])?;
+    expect_marks(&mut device, &[(18, Err(MarkFault::Range))])?;
     mark_up_to(&mut device, 0, 16)?;
     expect_marks(
-        &rt,
         &mut device,
         &[
             (16, Err(MarkFault::Full)),
@@ -70,35 +67,33 @@ fn sixteen_marks(rt: HostRuntime) -> Result<(), Fail> {
             (17, Err(MarkFault::Full)),
         ],
     )?;
-    expect_bad_up_to(&rt, &mut device, 16)
+    expect_bad_up_to(&mut device, 16)
 }
 
 #[test]
-fn a_mark_twice_takes_one_place(rt: HostRuntime) -> Result<(), Fail> {
+fn a_mark_twice_takes_one_place() -> Result<(), Fail> {
     let bytes = [1; 9216];
     let mut device = Marked::new(ReadMemory::new(&bytes));
     mark_up_to(&mut device, 0, 15)?;
     mark_up_to(&mut device, 0, 15)?;
-    expect_bad_up_to(&rt, &mut device, 15)?;
+    expect_bad_up_to(&mut device, 15)?;
     expect_marks(
-        &rt,
         &mut device,
         &[(15, Ok(())), (15, Ok(())), (16, Err(MarkFault::Full))],
     )?;
-    expect_bad_up_to(&rt, &mut device, 16)
+    expect_bad_up_to(&mut device, 16)
 }
 
 #[test]
-fn marks_move_to_another_device(rt: HostRuntime) -> Result<(), Fail> {
+fn marks_move_to_another_device() -> Result<(), Fail> {
     let bytes = [1; 9216];
     let other = [2; 8704];
     let mut device = Marked::new(ReadMemory::new(&bytes));
     mark_up_to(&mut device, 0, 16)?;
     let (_, marks) = device.into_parts();
     let mut device = Marked::with_marks(ReadMemory::new(&other), marks);
-    expect_bad_up_to(&rt, &mut device, 16)?;
+    expect_bad_up_to(&mut device, 16)?;
     expect_marks(
-        &rt,
         &mut device,
         &[
             (1, Ok(())),

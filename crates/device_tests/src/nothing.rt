@@ -19,8 +19,8 @@ fn read_memory(rt: HostRuntime) -> Result<(), Fail> {
     let bytes = [1; 511];
     let mut device = ReadMemory::new(&bytes);
     assert_eq!(rt; device.size(), 0);
-    expect_state(&rt, &mut device, 0, RANGE)?;
-    expect_read(&rt, &mut device, 0, 1, RANGE)
+    expect_state(&mut device, 0, RANGE)?;
+    expect_read(&mut device, 0, 1, RANGE)
 }
 
 #[test]
@@ -28,7 +28,7 @@ fn write_memory(rt: HostRuntime) -> Result<(), Fail> {
     let mut bytes = [1; 511];
     let mut device = WriteMemory::new(&mut bytes, Budget::Count(0), RootTear::All);
     assert_eq!(rt; device.size(), 0);
-    expect(&rt, &mut device, &ASKS)
+    expect(&mut device, &ASKS)
 }
 
 #[test]
@@ -37,7 +37,7 @@ fn cache_over_marks_over_memory(rt: HostRuntime) -> Result<(), Fail> {
     let mut device = cache_over_marks::over_memory(&mut bytes, Budget::Count(0), RootTear::All);
     assert_eq!(rt; device.size(), 0);
     assert_eq!(rt; device.mark(0), Err(MarkFault::Range));
-    expect(&rt, &mut device, &ASKS)
+    expect(&mut device, &ASKS)
 }
 
 #[test]
@@ -46,5 +46,5 @@ fn marks_over_cache_over_memory(rt: HostRuntime) -> Result<(), Fail> {
     let mut device = marks_over_cache::over_memory(&mut bytes, Budget::Count(0), RootTear::All);
     assert_eq!(rt; device.size(), 0);
     assert_eq!(rt; device.mark(0), Err(MarkFault::Range));
-    expect(&rt, &mut device, &ASKS)
+    expect(&mut device, &ASKS)
 }

@@ -3,14 +3,14 @@
 use crate::asks::*;
 use crate::counted::Counted;
 use cache::layer::Cache;
+use checks::check_eq;
 use faults::device::DeviceFault;
 use marks::layer::Marked;
 use memory::writing::{Budget, RootTear, WriteMemory};
-use std::process::Abort;
 use std::test::Fail;
 
 /// What is asked of a cache over 24 sectors, each of which is made of its own number; so many reads must reach the device below.
-fn expect_reads(rt: &impl Abort, asks: &[Ask], reads: u32) -> Result<(), Fail> {
+fn expect_reads(asks: &[Ask], reads: u32) -> Result<(), Fail> {
     let mut bytes = [0; 12288];
     number(&mut bytes);
     let mut device = Cache::new(Counted::new(WriteMemory::new(
@@ -18,9 +18,8 @@ fn expect_reads(rt: &impl Abort, asks: &[Ask], reads: u32) -> Result<(), Fail> {
         Budget::Endless,
         RootTear::All,
     )));
-    expect(rt, &mut device, asks)?;
-    assert_eq!(rt; device.into_below().reads(), reads);
-    Ok(())
+    expect(&mut device, asks)?;
+    check_eq(device.into_below().reads(), reads)
 }
 
 /// Gives every byte its sector's number.
@@ -37,10 +36,9 @@ fn sector(number: u8) -> Ask {
 
 /// Sectors s and s + 8 share a page: each read of the other one reads below again.
 #[test]
-fn every_conflict(rt: HostRuntime) -> Result<(), Fail> {
+fn every_conflict() -> Result<(), Fail> {
     for s in 1..16u8 {
         expect_reads(
-            &rt,
             &[
                 sector(s),
                 sector(s),
@@ -55,14 +53,13 @@ fn every_conflict(rt: HostRuntime) -> Result<(), Fail> {
 }
 
 #[test]
-fn sector_0_is_never_kept(rt: HostRuntime) -> Result<(), Fail> {
-    expect_reads(&rt, &[sector(8), sector(0), sector(0), sector(8)], 3)
+fn sector_0_is_never_kept() -> Result<(), Fail> {
+    expect_reads(&[sector(8), sector(0), sector(0), sector(8)], 3)
 }
 
 #[test]
-fn a_miss_touches_no_other_page(rt: HostRuntime) -> Result<(), Fail> {
+fn a_miss_touches_no_other_page() -> Result<(), Fail> {
     expect_reads(
-        &rt,
         &[
             sector(1),
             sector(2),
@@ -88,9 +85,8 @@ fn a_miss_touches_no_other_page(rt: HostRuntime) -> Result<(), Fail> {
 }
 
 #[test]
-fn a_write_mends_its_page(rt: HostRuntime) -> Result<(), Fail> {
+fn a_write_mends_its_page() -> Result<(), Fail> {
     expect_reads(
-        &rt,
         &[
             sector(3),
             Ask::Write(2040, 4, 77, DONE),
@@ -103,9 +99,8 @@ fn a_write_mends_its_page(rt: HostRuntime) -> Result<(), Fail> {
 }
 
 #[test]
-fn a_write_leaves_other_pages(rt: HostRuntime) -> Result<(), Fail> {
+fn a_write_leaves_other_pages() -> Result<(), Fail> {
     expect_reads(
-        &rt,
         &[
             sector(3),
             sector(8),
@@ -121,7 +116,7 @@ fn a_write_leaves_other_pages(rt: HostRuntime) -> Result<(), Fail> {
 }
 
 #[test]
-fn a_kept_sector_that_goes_bad_is_refused(rt: HostRuntime) -> Result<(), Fail> {
+fn a_kept_sector_that_goes_bad_is_refused() -> Result<(), Fail> {
     let mut bytes = [0; 12288];
     number(&mut bytes);
     let mut device = Cache::new(Marked::new(WriteMemory::new(
@@ -129,11 +124,10 @@ fn a_kept_sector_that_goes_bad_is_refused(rt: HostRuntime) -> Result<(), Fail> {
         Budget::Endless,
         RootTear::All,
     )));
-    expect(&rt, &mut device, &[sector(3)])?;
+    expect(&mut device, &[sector(3)])?;
     device.mark(3)?;
     let bad = Err(DeviceFault::Bad(1536));
     expect(
-        &rt,
         &mut device,
         &[
             Ask::State(3, bad),
@@ -153,10 +147,9 @@ fn a_refused_write_leaves_the_pages(rt: HostRuntime) -> Result<(), Fail> {
         Budget::Endless,
         RootTear::All,
     ))));
-    expect(&rt, &mut device, &[sector(3)])?;
+    expect(&mut device, &[sector(3)])?;
     device.mark(11)?;
     expect(
-        &rt,
         &mut device,
         &[
             Ask::Write(5632, 512, 77, Err(DeviceFault::Bad(5632))),
@@ -169,12 +162,11 @@ fn a_refused_write_leaves_the_pages(rt: HostRuntime) -> Result<(), Fail> {
 }
 
 #[test]
-fn a_kept_sector_is_refused_without_power(rt: HostRuntime) -> Result<(), Fail> {
+fn a_kept_sector_is_refused_without_power() -> Result<(), Fail> {
     let mut bytes = [0; 12288];
     number(&mut bytes);
     let mut device = Cache::new(WriteMemory::new(&mut bytes, Budget::Count(0), RootTear::All));
     expect(
-        &rt,
         &mut device,
         &[
             sector(3),

@@ -6,7 +6,6 @@ use device::device::WritableDevice;
 use faults::device::DeviceFault;
 use marks::layer::Marked;
 use memory::writing::{Budget, RootTear, WriteMemory};
-use std::process::Abort;
 use std::test::Fail;
 
 const BAD: Answer = Err(DeviceFault::Bad(1024));
@@ -52,27 +51,27 @@ const POWERS: [Ask; 8] = [
 ];
 
 /// The whole order on a device of four sectors whose sector 2 is bad and that has no write left.
-fn in_order<D: WritableDevice>(rt: &impl Abort, device: &mut D) -> Result<(), Fail>
+fn in_order<D: WritableDevice>(device: &mut D) -> Result<(), Fail>
     requires { D.Device.sound device.old }
     ensures { D.Device.sound device.new }
 {
-    expect(rt, device, &RANGES)?;
-    expect(rt, device, &BADS)?;
-    expect(rt, device, &[Ask::Write(1536, 1, 2, POWER)])?;
-    expect(rt, device, &RANGES)?;
-    expect(rt, device, &POWERS)
+    expect(device, &RANGES)?;
+    expect(device, &BADS)?;
+    expect(device, &[Ask::Write(1536, 1, 2, POWER)])?;
+    expect(device, &RANGES)?;
+    expect(device, &POWERS)
 }
 
 #[test]
-fn marks_over_memory(rt: HostRuntime) -> Result<(), Fail> {
+fn marks_over_memory() -> Result<(), Fail> {
     let mut bytes = [1; 2100];
     let mut device = Marked::new(WriteMemory::new(&mut bytes, Budget::Count(0), RootTear::All));
     device.mark(2)?;
-    in_order(&rt, &mut device)
+    in_order(&mut device)
 }
 
 #[test]
-fn cache_over_marks(rt: HostRuntime) -> Result<(), Fail> {
+fn cache_over_marks() -> Result<(), Fail> {
     let mut bytes = [1; 2100];
     let mut device = Cache::new(Marked::new(WriteMemory::new(
         &mut bytes,
@@ -80,11 +79,11 @@ fn cache_over_marks(rt: HostRuntime) -> Result<(), Fail> {
         RootTear::All,
     )));
     device.mark(2)?;
-    in_order(&rt, &mut device)
+    in_order(&mut device)
 }
 
 #[test]
-fn marks_over_cache(rt: HostRuntime) -> Result<(), Fail> {
+fn marks_over_cache() -> Result<(), Fail> {
     let mut bytes = [1; 2100];
     let mut device = Marked::new(Cache::new(WriteMemory::new(
         &mut bytes,
@@ -92,19 +91,18 @@ fn marks_over_cache(rt: HostRuntime) -> Result<(), Fail> {
         RootTear::All,
     )));
     device.mark(2)?;
-    in_order(&rt, &mut device)
+    in_order(&mut device)
 }
 
 #[test]
-fn memory_alone(rt: HostRuntime) -> Result<(), Fail> {
+fn memory_alone() -> Result<(), Fail> {
     let mut bytes = [1; 2100];
     let mut device = WriteMemory::new(&mut bytes, Budget::Count(0), RootTear::All);
-    expect(&rt, &mut device, &RANGES)?;
+    expect(&mut device, &RANGES)?;
     expect(
-        &rt,
         &mut device,
         &[Ask::State(2, DONE), Ask::Write(1536, 1, 2, POWER)],
     )?;
-    expect(&rt, &mut device, &RANGES)?;
-    expect(&rt, &mut device, &POWERS)
+    expect(&mut device, &RANGES)?;
+    expect(&mut device, &POWERS)
 }

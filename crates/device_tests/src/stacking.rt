@@ -49,29 +49,29 @@ fn marks_over_cache_rewrite(rt: HostRuntime) -> Result<(), Fail> {
 }
 
 #[test]
-fn cache_over_marks_restarts(rt: HostRuntime) -> Result<(), Fail> {
+fn cache_over_marks_restarts() -> Result<(), Fail> {
     let mut bytes = [1; 4096];
     let mut stack = cache_over_marks::over_memory(&mut bytes, Budget::Endless, RootTear::All);
     stack.mark(3)?;
-    expect(&rt, &mut stack, &[Ask::Byte(1024, 1)])?;
+    expect(&mut stack, &[Ask::Byte(1024, 1)])?;
     let mut stack = cache_over_marks::with_writes(stack, Budget::Count(0), RootTear::Nothing);
-    expect(&rt, &mut stack, &CUT)?;
+    expect(&mut stack, &CUT)?;
     let mut stack = cache_over_marks::restart(stack, Budget::Count(1), RootTear::All);
-    expect(&rt, &mut stack, &AGAIN)?;
+    expect(&mut stack, &AGAIN)?;
     let mut stack = cache_over_marks::restart(stack, Budget::Endless, RootTear::All);
-    expect(&rt, &mut stack, &[Ask::Byte(0, 8), Ask::Byte(1, 8)])
+    expect(&mut stack, &[Ask::Byte(0, 8), Ask::Byte(1, 8)])
 }
 
 #[test]
-fn marks_over_cache_restart(rt: HostRuntime) -> Result<(), Fail> {
+fn marks_over_cache_restart() -> Result<(), Fail> {
     let mut bytes = [1; 4096];
     let mut stack = marks_over_cache::over_memory(&mut bytes, Budget::Endless, RootTear::All);
     stack.mark(3)?;
-    expect(&rt, &mut stack, &[Ask::Byte(1024, 1)])?;
+    expect(&mut stack, &[Ask::Byte(1024, 1)])?;
     let mut stack = marks_over_cache::with_writes(stack, Budget::Count(0), RootTear::Nothing);
-    expect(&rt, &mut stack, &CUT)?;
+    expect(&mut stack, &CUT)?;
     let mut stack = marks_over_cache::restart(stack, Budget::Count(1), RootTear::Nothing);
-    expect(&rt, &mut stack, &AGAIN)?;
+    expect(&mut stack, &AGAIN)?;
     let mut stack = marks_over_cache::restart(stack, Budget::Endless, RootTear::All);
-    expect(&rt, &mut stack, &[Ask::Byte(0, 7), Ask::Byte(1, 1)])
+    expect(&mut stack, &[Ask::Byte(0, 7), Ask::Byte(1, 1)])
 }

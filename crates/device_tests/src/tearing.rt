@@ -2,8 +2,8 @@
 
 use crate::asks::*;
 use byte_lists::slices::equal;
+use checks::check;
 use memory::writing::{Budget, RootTear, WriteMemory};
-use std::process::Abort;
 use std::test::Fail;
 
 /// Place and length of the pieces that are written in turn; piece `i` is made of bytes `10 + i`.
@@ -52,7 +52,7 @@ fn fill_all(bytes: &mut [u8], left: usize, tear: RootTear) {
 }
 
 /// All pieces with so many writes left.
-fn run(rt: &impl Abort, budget: Budget, left: usize, tear: RootTear) -> Result<(), Fail> {
+fn run(budget: Budget, left: usize, tear: RootTear) -> Result<(), Fail> {
     let mut bytes = [1; 1600];
     let mut device = WriteMemory::new(&mut bytes, budget, tear);
     let writes = [
@@ -63,24 +63,23 @@ fn run(rt: &impl Abort, budget: Budget, left: usize, tear: RootTear) -> Result<(
         write_of(4, left),
         write_of(5, left),
     ];
-    expect(rt, &mut device, &writes)?;
+    expect(&mut device, &writes)?;
     let mut want = [1; 1600];
     fill_all(&mut want, left, tear);
-    assert!(rt; equal(device.into_bytes(), &want));
-    Ok(())
+    check(equal(device.into_bytes(), &want))
 }
 
 #[test]
-fn every_number_of_writes_left(rt: HostRuntime) -> Result<(), Fail> {
+fn every_number_of_writes_left() -> Result<(), Fail> {
     for left in 0..8u32 {
-        run(&rt, Budget::Count(left), left as usize, RootTear::All)?;
-        run(&rt, Budget::Count(left), left as usize, RootTear::Nothing)?;
+        run(Budget::Count(left), left as usize, RootTear::All)?;
+        run(Budget::Count(left), left as usize, RootTear::Nothing)?;
     }
     Ok(())
 }
 
 #[test]
-fn endless_writes(rt: HostRuntime) -> Result<(), Fail> {
-    run(&rt, Budget::Endless, 6, RootTear::All)?;
-    run(&rt, Budget::Endless, 6, RootTear::Nothing)
+fn endless_writes() -> Result<(), Fail> {
+    run(Budget::Endless, 6, RootTear::All)?;
+    run(Budget::Endless, 6, RootTear::Nothing)
 }

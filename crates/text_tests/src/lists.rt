@@ -1,6 +1,7 @@
 //! Record lists, read from texts and written as texts.
 
-use std::process::Abort;
+use checks::check_eq;
+use std::test::Fail;
 use text::fault::TextFault;
 use text::lent::LentRecord;
 use text::whole::read_records;
@@ -21,36 +22,34 @@ fn every_byte() -> [u8; 256] {
 
 /// Three records, the middle one empty, are written and read again.
 fn come_back<'a>(
-    rt: &impl Abort,
     first: LentRecord<'a>,
     middle: LentRecord<'a>,
     last: LentRecord<'a>,
-) {
+) -> Result<(), Fail> {
     let mut buffer = [7u8; 600];
-    assert_eq!(rt; write_text(&[first, middle, last], &mut buffer), Ok(557));
-    assert_eq!(rt; buffer[557], 7);
+    check_eq(write_text(&[first, middle, last], &mut buffer), Ok(557))?;
+    check_eq(buffer[557], 7)?;
     let blank = LentRecord {
         key: b"",
         data: b"",
     };
     let mut read = [blank; 4];
-    assert_eq!(rt; read_records(&buffer[0..557], &mut read), Ok(3));
-    assert_eq!(rt; read[0].key, first.key);
-    assert_eq!(rt; read[0].data, first.data);
-    assert_eq!(rt; read[1].key, b"".as_slice());
-    assert_eq!(rt; read[1].data, b"".as_slice());
-    assert_eq!(rt; read[2].key, last.key);
-    assert_eq!(rt; read[2].data, last.data);
-    assert_eq!(rt; read[3].key, b"".as_slice());
+    check_eq(read_records(&buffer[0..557], &mut read), Ok(3))?;
+    check_eq(read[0].key, first.key)?;
+    check_eq(read[0].data, first.data)?;
+    check_eq(read[1].key, b"".as_slice())?;
+    check_eq(read[1].data, b"".as_slice())?;
+    check_eq(read[2].key, last.key)?;
+    check_eq(read[2].data, last.data)?;
+    check_eq(read[3].key, b"".as_slice())
 }
 
 #[test]
-fn every_byte_comes_back(rt: HostRuntime) {
+fn every_byte_comes_back() -> Result<(), Fail> {
     let key = every_byte();
     let mut data = every_byte();
     data.reverse();
     come_back(
-        &rt,
         LentRecord {
             key: &key,
             data: b"\n->\n\n",
@@ -63,7 +62,7 @@ fn every_byte_comes_back(rt: HostRuntime) {
             key: b"+1,1:a->1\n",
             data: &data,
         },
-    );
+    )
 }
 
 #[test]

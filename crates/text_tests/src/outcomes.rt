@@ -1,28 +1,25 @@
 //! The line that tells the outcome of a check.
 
-use std::process::Abort;
+use checks::check_eq;
 use std::test::Fail;
 use text::fault::TextFault;
 use text_writer::outcome::check_text;
 
-fn tells(rt: &impl Abort, text: &[u8], expected: &[u8]) -> Result<(), Fail> {
+fn tells(text: &[u8], expected: &[u8]) -> Result<(), Fail> {
     let mut line = [0u8; 46];
     match check_text(text, &mut line) {
-        Ok(n) => {
-            assert_eq!(rt; &line[0..n], expected);
-            Ok(())
-        },
+        Ok(n) => { check_eq(&line[0..n], expected) },
         Err(_) => Err(Fail::new("refused")),
     }
 }
 
 #[test]
-fn outcomes(rt: HostRuntime) -> Result<(), Fail> {
-    tells(&rt, b"\n", b"ok,0,0\n")?;
-    tells(&rt, b"+10,3:0123456789->abc\n+0,0:->\n\n", b"ok,2,13\n")?;
-    tells(&rt, b"", b"no,10,256,0\n")?;
-    tells(&rt, b"+01,1:a->1", b"no,10,256,2\n")?;
-    tells(&rt, b"+10,3:0123456789->abc\n+0,0:->\n", b"no,10,256,30\n")
+fn outcomes() -> Result<(), Fail> {
+    tells(b"\n", b"ok,0,0\n")?;
+    tells(b"+10,3:0123456789->abc\n+0,0:->\n\n", b"ok,2,13\n")?;
+    tells(b"", b"no,10,256,0\n")?;
+    tells(b"+01,1:a->1", b"no,10,256,2\n")?;
+    tells(b"+10,3:0123456789->abc\n+0,0:->\n", b"no,10,256,30\n")
 }
 
 #[test]

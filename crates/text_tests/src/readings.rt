@@ -1,9 +1,9 @@
 //! Files in memory, read record by record.
 
+use checks::{check, check_eq};
 use faults::file::FileFault;
 use records::placed::PlacedRecord;
 use records::reader::RecordReader;
-use std::process::Abort;
 use std::test::Fail;
 
 const BLANK: PlacedRecord<'static> = PlacedRecord {
@@ -13,91 +13,75 @@ const BLANK: PlacedRecord<'static> = PlacedRecord {
     data_place: 0,
 };
 
-fn put_word(rt: &impl Abort, file: &mut [u8; 2090], place: usize, word: u32) {
-    assert!(rt; place <= 2086);
+fn put_word(file: &mut [u8; 2090], place: usize, word: u32) -> Result<(), Fail> {
+    check(place <= 2086)?;
     let bytes = word.to_le_bytes();
     file[place] = bytes[0];
     file[place + 1] = bytes[1];
     file[place + 2] = bytes[2];
     file[place + 3] = bytes[3];
+    Ok(())
 }
 
 /// A record at 2048 with key `ab` and data `c`, an empty one at 2059, one at 2067 with key `` and data `\n->`, and table 0 at 2078.
-fn three(rt: &impl Abort) -> [u8; 2090] {
+fn three() -> Result<[u8; 2090], Fail> {
     let mut file = [0u8; 2090];
-    put_word(rt, &mut file, 0, 2078);
-    put_word(rt, &mut file, 2048, 2);
-    put_word(rt, &mut file, 2052, 1);
+    put_word(&mut file, 0, 2078)?;
+    put_word(&mut file, 2048, 2)?;
+    put_word(&mut file, 2052, 1)?;
     file[2056] = b'a';
     file[2057] = b'b';
     file[2058] = b'c';
-    put_word(rt, &mut file, 2071, 3);
+    put_word(&mut file, 2071, 3)?;
     file[2075] = b'\n';
     file[2076] = b'-';
     file[2077] = b'>';
-    file
+    Ok(file)
 }
 
-fn hands(
-    rt: &impl Abort,
-    reader: &mut RecordReader<'_>,
-    place: u32,
-    key: &[u8],
-    data: &[u8],
-) -> Result<(), Fail> {
+fn hands(reader: &mut RecordReader<'_>, place: u32, key: &[u8], data: &[u8]) -> Result<(), Fail> {
     match reader.next() {
         Err(_) => Err(Fail::new("refused")),
         Ok(found) => match found {
             None => Err(Fail::new("the end")),
             Some(record) => {
-                assert_eq!(rt; record.place, place);
-                assert_eq!(rt; record.data_place as usize, place as usize + 8 + key.len());
-                assert_eq!(rt; record.key, key);
-                assert_eq!(rt; record.data, data);
-                Ok(())
+                check_eq(record.place, place)?;
+                check_eq(record.data_place as usize, place as usize + 8 + key.len())?;
+                check_eq(record.key, key)?;
+                check_eq(record.data, data)
             }
         },
     }
 }
 
-fn ends(rt: &impl Abort, reader: &mut RecordReader<'_>) -> Result<(), Fail> {
+fn ends(reader: &mut RecordReader<'_>) -> Result<(), Fail> {
     match reader.next() {
         Err(_) => Err(Fail::new("refused")),
-        Ok(found) => {
-            assert!(rt; found.is_none());
-            Ok(())
-        },
+        Ok(found) => { check(found.is_none()) },
     }
 }
 
-fn refuses(
-    rt: &impl Abort,
-    reader: &mut RecordReader<'_>,
-    expected: FileFault,
-) -> Result<(), Fail> {
+fn refuses(reader: &mut RecordReader<'_>, expected: FileFault) -> Result<(), Fail> {
     match reader.next() {
-        Err(fault) => {
-            assert_eq!(rt; fault, expected);
-            Ok(())
-        },
+        Err(fault) => { check_eq(fault, expected) },
         Ok(_) => Err(Fail::new("not refused")),
     }
 }
 
 #[test]
-fn records_in_order_then_the_end_again(rt: HostRuntime) -> Result<(), Fail> {
-    let file = three(&rt);
+fn records_in_order_then_the_end_again() -> Result<(), Fail> {
+    let file = three()?;
     let mut reader = RecordReader::new(&file);
-    hands(&rt, &mut reader, 2048, b"ab", b"c")?;
-    hands(&rt, &mut reader, 2059, b"", b"")?;
-    hands(&rt, &mut reader, 2067, b"", b"\n->")?;
-    ends(&rt, &mut reader)?;
-    ends(&rt, &mut reader)
+    hands(&mut reader, 2048, b"ab", b"c")?;
+    hands(&mut reader, 2059, b"", b"")?;
+    hands(&mut reader, 2067, b"", b"\n->")?;
+    ends(&mut reader)?;
+    ends(&mut reader)
 }
 
 #[test]
-fn a_list_filled_in_turns(rt: HostRuntime) {
-    let file = three(&rt);
+fn a_list_filled_in_turns(rt: HostRuntime) -> Result<(), Fail> {
+    let file = three()?;
     let mut reader = RecordReader::new(&file);
     let mut two = [BLANK; 2];
     assert_eq!(rt; reader.fill(&mut []), Ok(0));
@@ -108,23 +92,24 @@ fn a_list_filled_in_turns(rt: HostRuntime) {
     assert_eq!(rt; two[0].place, 2067);
     assert_eq!(rt; two[1].place, 2059);
     assert_eq!(rt; reader.fill(&mut two), Ok(0));
+    Ok(())
 }
 
 #[test]
 fn headers_that_are_refused(rt: HostRuntime) -> Result<(), Fail> {
     let zeros = [0u8; 2090];
     let mut reader = RecordReader::new(&zeros[0..2047]);
-    refuses(&rt, &mut reader, FileFault::Short(2047))?;
+    refuses(&mut reader, FileFault::Short(2047))?;
     let mut reader = RecordReader::new(&zeros[0..2048]);
-    refuses(&rt, &mut reader, FileFault::Entry(0))?;
-    refuses(&rt, &mut reader, FileFault::Entry(0))?;
+    refuses(&mut reader, FileFault::Entry(0))?;
+    refuses(&mut reader, FileFault::Entry(0))?;
     let mut file = zeros;
-    put_word(&rt, &mut file, 0, 2047);
-    refuses(&rt, &mut RecordReader::new(&file), FileFault::Entry(0))?;
-    put_word(&rt, &mut file, 0, 2091);
-    refuses(&rt, &mut RecordReader::new(&file), FileFault::Entry(0))?;
-    put_word(&rt, &mut file, 0, 2048);
-    ends(&rt, &mut RecordReader::new(&file))?;
+    put_word(&mut file, 0, 2047)?;
+    refuses(&mut RecordReader::new(&file), FileFault::Entry(0))?;
+    put_word(&mut file, 0, 2091)?;
+    refuses(&mut RecordReader::new(&file), FileFault::Entry(0))?;
+    put_word(&mut file, 0, 2048)?;
+    ends(&mut RecordReader::new(&file))?;
     assert_eq!(rt;
         RecordReader::new(&zeros).fill(&mut []),
         Err(FileFault::Entry(0))
@@ -134,38 +119,39 @@ fn headers_that_are_refused(rt: HostRuntime) -> Result<(), Fail> {
 
 #[test]
 fn a_record_that_passes_table_0(rt: HostRuntime) -> Result<(), Fail> {
-    let mut file = three(&rt);
-    put_word(&rt, &mut file, 2071, 4);
+    let mut file = three()?;
+    put_word(&mut file, 2071, 4)?;
     let mut reader = RecordReader::new(&file);
     let mut all = [BLANK; 3];
     assert_eq!(rt; reader.fill(&mut all), Err(FileFault::Record(2067)));
     assert_eq!(rt; all[0].place, 0);
-    hands(&rt, &mut reader, 2048, b"ab", b"c")?;
-    hands(&rt, &mut reader, 2059, b"", b"")?;
-    refuses(&rt, &mut reader, FileFault::Record(2067))?;
-    refuses(&rt, &mut reader, FileFault::Record(2067))
+    hands(&mut reader, 2048, b"ab", b"c")?;
+    hands(&mut reader, 2059, b"", b"")?;
+    refuses(&mut reader, FileFault::Record(2067))?;
+    refuses(&mut reader, FileFault::Record(2067))
 }
 
 #[test]
-fn a_record_of_the_largest_lengths(rt: HostRuntime) {
-    let mut file = three(&rt);
-    put_word(&rt, &mut file, 2067, 4294967295);
-    put_word(&rt, &mut file, 2071, 4294967295);
+fn a_record_of_the_largest_lengths(rt: HostRuntime) -> Result<(), Fail> {
+    let mut file = three()?;
+    put_word(&mut file, 2067, 4294967295)?;
+    put_word(&mut file, 2071, 4294967295)?;
     let mut all = [BLANK; 3];
     assert_eq!(rt; RecordReader::new(&file).fill(&mut all[0..2]), Ok(2));
     assert_eq!(rt;
         RecordReader::new(&file).fill(&mut all),
         Err(FileFault::Record(2067))
     );
+    Ok(())
 }
 
 #[test]
-fn a_record_whose_words_do_not_fit(rt: HostRuntime) -> Result<(), Fail> {
-    let mut file = three(&rt);
-    put_word(&rt, &mut file, 0, 2085);
+fn a_record_whose_words_do_not_fit() -> Result<(), Fail> {
+    let mut file = three()?;
+    put_word(&mut file, 0, 2085)?;
     let mut reader = RecordReader::new(&file);
-    hands(&rt, &mut reader, 2048, b"ab", b"c")?;
-    hands(&rt, &mut reader, 2059, b"", b"")?;
-    hands(&rt, &mut reader, 2067, b"", b"\n->")?;
-    refuses(&rt, &mut reader, FileFault::Record(2078))
+    hands(&mut reader, 2048, b"ab", b"c")?;
+    hands(&mut reader, 2059, b"", b"")?;
+    hands(&mut reader, 2067, b"", b"\n->")?;
+    refuses(&mut reader, FileFault::Record(2078))
 }
