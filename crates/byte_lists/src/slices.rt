@@ -18,26 +18,22 @@ pub fn word_at(bytes: &[u8], place: usize) -> u32
     requires { place + 4 ≤ length bytes.now }
     ensures { result ≡ word_at bytes.now place }
 {
-    bytes[place] as u32
-        + 256
-            * (bytes[place + 1] as u32
-                + 256 * (bytes[place + 2] as u32 + 256 * (bytes[place + 3] as u32)))
+    u32::from_le_bytes([
+        bytes[place],
+        bytes[place + 1],
+        bytes[place + 2],
+        bytes[place + 3],
+    ])
 }
 
 /// The bytes of two words.
+// Below the crate that has `Words`, so no `From` of it.
 pub fn two_words(first: u32, second: u32) -> [u8; 8]
     ensures { result ≡ word first ++ word second }
 {
-    [
-        (first % 256) as u8,
-        (first / 256 % 256) as u8,
-        (first / 256 / 256 % 256) as u8,
-        (first / 256 / 256 / 256 % 256) as u8,
-        (second % 256) as u8,
-        (second / 256 % 256) as u8,
-        (second / 256 / 256 % 256) as u8,
-        (second / 256 / 256 / 256 % 256) as u8,
-    ]
+    let [a, b, c, d] = first.to_le_bytes();
+    let [e, f, g, h] = second.to_le_bytes();
+    [a, b, c, d, e, f, g, h]
 }
 
 /// Fills `piece` with the bytes of `from` at `start`.
@@ -59,6 +55,7 @@ pub fn lay_over(to: &mut [u8], start: usize, piece: &[u8])
 }
 
 /// Whether two slices hold the same bytes.
+// It is `==`, with its answer in the words of the definitions, which the loops that compare files and keys cite.
 pub fn equal(a: &[u8], b: &[u8]) -> bool
     ensures { Decides result (a.now ≡ b.now) }
 {

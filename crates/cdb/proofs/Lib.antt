@@ -5,7 +5,6 @@ pub mod Forward
 pub mod Owner
 pub mod Backward
 pub mod Lookup
-pub mod Exists
 pub mod Raw
 pub mod Placement
 pub mod FileProof
@@ -16,3 +15,4 @@ pub mod Slots
 pub mod ByTable
 pub mod Exactly
 pub mod OneVerdict
+pub mod Exists

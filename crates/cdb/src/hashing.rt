@@ -4,6 +4,7 @@ ghost use Rattle.std.specs.Prelude.{◌≡◌, fold};
 ghost use Rattle.cdb.specs.Records.{hash_of, hash_step};
 
 /// The hash of a key.
+#[tactic(auto, unfolding(crate::specs::Records::hash_of))]
 pub fn hash(key: &[u8]) -> u32
     ensures { result ≡ hash_of key.now }
 {
@@ -14,9 +15,5 @@ pub fn hash(key: &[u8]) -> u32
 pub fn hash_on(start: u32, bytes: &[u8]) -> u32
     ensures { result ≡ fold hash_step start bytes.now }
 {
-    let mut h = start;
-    for b in bytes {
-        h = h.wrapping_mul(33) ^ *b as u32;
-    }
-    h
+    bytes.iter().fold(start, |hash, byte| hash.wrapping_mul(33) ^ u32::from(*byte))
 }

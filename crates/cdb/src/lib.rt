@@ -2,4 +2,5 @@
 #![tactic(auto)]
 
 pub mod hashing;
+pub mod tables;
 pub mod theorems;

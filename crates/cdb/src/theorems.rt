@@ -2,11 +2,9 @@
 
 ghost use Rattle.cdb.specs.Theorems.{LawfulExactlyWhenMade, OneReading, OneVerdict};
 
-/// A file is lawful exactly when it is made by a permitted filling; it has one record list, and one verdict.
-pub fn format_stands() -> u8
+/// Makes known to a proof that a file is lawful exactly when it is made by a permitted filling, and that it has one record list and one verdict. It does nothing.
+pub fn format_stands()
     ensures made { LawfulExactlyWhenMade }
     ensures reading { OneReading }
     ensures verdict { OneVerdict }
-{
-    0
-}
+{}

@@ -1,5 +1,5 @@
 -- The number, the table and the place of every refusal. Where no table is meant it is 256, where no place is meant it is 0.
-use Rattle.std.specs.Prelude.{ℕ, ◌*◌}
+use Rattle.std.specs.Prelude.{ℕ, ◌*◌, List, ◌++◌, codes, decimal}
 use Rattle.faults.specs.declared.report.Report.{Report}
 use Rattle.faults.specs.declared.device.DeviceFault.{DeviceFault}
 use Rattle.faults.specs.declared.device.DeviceFault.TheVariants as device
@@ -9,6 +9,10 @@ use Rattle.faults.specs.declared.file.FileFault.TheVariants as file
 
 abbrev pub report : ℕ → ℕ → ℕ → Report
 report n t p = record { number = n; table = t; place = p }
+
+-- a refusal as it is printed: its number, its table and its place, with commas between them
+abbrev pub report_text : Report → List ℕ
+report_text r = decimal r.number ++ (codes "," ++ (decimal r.table ++ (codes "," ++ decimal r.place)))
 
 -- a fault from below, with the table and the place of the file at which it came
 abbrev pub located : {F : Type 0} → F → ℕ → ℕ → Located F

@@ -16,27 +16,15 @@ pub enum DeviceFault {
     Bad(u32),
 }
 
-impl DeviceFault {
-    /// Its number, and its place.
-    pub fn report(&self) -> Report
-        ensures { result ≡ device_report self.now }
-    {
-        match *self {
-            DeviceFault::Range => Report {
-                number: 11,
-                table: 256,
-                place: 0,
-            },
-            DeviceFault::Power => Report {
-                number: 21,
-                table: 256,
-                place: 0,
-            },
-            DeviceFault::Bad(place) => Report {
-                number: 22,
-                table: 256,
-                place: place as u64,
-            },
+/// A device's fault is told by its number, and its place.
+impl From<DeviceFault> for Report {
+    ghost from_gives = { λ f r. r ≡ device_report f };
+
+    fn from(fault: DeviceFault) -> Report {
+        match fault {
+            DeviceFault::Range => Report::bare(11),
+            DeviceFault::Power => Report::bare(21),
+            DeviceFault::Bad(place) => Report::placed(22, u64::from(place)),
         }
     }
 }

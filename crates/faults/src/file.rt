@@ -9,6 +9,7 @@ use crate::device::DeviceFault;
 use crate::report::Report;
 
 /// A fault from below, with the table and the place of the file at which it came; 256 and 0 where none is meant.
+// 256 for no table, as in a report, so that a place reads the same in both.
 #[derive(Clone, Copy, PartialEq, Eq, Debug)]
 pub struct Located<F> {
     pub fault: F,
@@ -45,68 +46,24 @@ pub enum FileFault {
     OtherKey,
 }
 
-impl FileFault {
-    /// Its number, table and place.
-    pub fn report(&self) -> Report
-        ensures { result ≡ file_report self.now }
-    {
-        match *self {
-            FileFault::Device(below) => below.fault.report(),
-            FileFault::Short(len) => Report {
-                number: 1,
-                table: 256,
-                place: len as u64,
-            },
-            FileFault::Entry(table) => Report {
-                number: 2,
-                table,
-                place: 8 * table as u64,
-            },
-            FileFault::Record(place) => Report {
-                number: 3,
-                table: 256,
-                place: place as u64,
-            },
-            FileFault::Lost(table, place) => Report {
-                number: 4,
-                table,
-                place: place as u64,
-            },
-            FileFault::Count(table, place) => Report {
-                number: 5,
-                table,
-                place: place as u64,
-            },
-            FileFault::Full(table, place) => Report {
-                number: 6,
-                table,
-                place: place as u64,
-            },
-            FileFault::Stained(table, place) => Report {
-                number: 7,
-                table,
-                place: place as u64,
-            },
-            FileFault::Order(table, place) => Report {
-                number: 8,
-                table,
-                place: place as u64,
-            },
-            FileFault::Past(table, place) => Report {
-                number: 9,
-                table,
-                place,
-            },
-            FileFault::Range => Report {
-                number: 11,
-                table: 256,
-                place: 0,
-            },
-            FileFault::OtherKey => Report {
-                number: 26,
-                table: 256,
-                place: 0,
-            },
+/// Its number, table and place.
+impl From<FileFault> for Report {
+    ghost from_gives = { λ f r. r ≡ file_report f };
+
+    fn from(fault: FileFault) -> Report {
+        match fault {
+            FileFault::Device(below) => Report::from(below.fault),
+            FileFault::Short(len) => Report::placed(1, u64::from(len)),
+            FileFault::Entry(table) => Report::in_table(2, table, 8 * u64::from(table)),
+            FileFault::Record(place) => Report::placed(3, u64::from(place)),
+            FileFault::Lost(table, place) => Report::in_table(4, table, u64::from(place)),
+            FileFault::Count(table, place) => Report::in_table(5, table, u64::from(place)),
+            FileFault::Full(table, place) => Report::in_table(6, table, u64::from(place)),
+            FileFault::Stained(table, place) => Report::in_table(7, table, u64::from(place)),
+            FileFault::Order(table, place) => Report::in_table(8, table, u64::from(place)),
+            FileFault::Past(table, place) => Report::in_table(9, table, place),
+            FileFault::Range => Report::bare(11),
+            FileFault::OtherKey => Report::bare(26),
         }
     }
 }
@@ -115,14 +72,11 @@ impl FileFault {
 pub fn add_place<T, F>(r: Result<T, F>, in_table: u32, at_place: u64) -> Result<T, Located<F>>
     ensures { result ≡ result_map_both (λ x. x) (λ f. located f in_table at_place) r }
 {
-    match r {
-        Ok(x) => Ok(x),
-        Err(fault) => Err(Located {
-            fault,
-            table: in_table,
-            place: at_place,
-        }),
-    }
+    r.map_err(|fault| Located {
+        fault,
+        table: in_table,
+        place: at_place,
+    })
 }
 
 impl From<Located<DeviceFault>> for FileFault {
