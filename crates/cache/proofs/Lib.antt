@@ -1,3 +1,2 @@
 pub mod Paging
 pub mod Changing
-pub mod Marking

@@ -1,11 +1,10 @@
 -- Pages that equal their sectors.
 use Rattle.std.proofs.Common.{◌≡◌, ℕ, ◌+◌, ◌*◌, ◌/◌, ◌%◌, ◌<◌, ◌≤◌, true, ◌≢◌, List, length, set, is_ok, Some, None, Option, Result, sym, refl, ap, ◌∙◌, subst, ⊎_elim, arith, get_or-set_other, get_or-set_same}
-use Rattle.std.proofs.lemmas.Bool.{cases_eq, false≢true, and_from, lt-ltb, le-leb, cond-true}
+use Rattle.std.proofs.lemmas.Bool.{cases_eq, false≢true}
 use Rattle.byte_lists.specs.Bytes.{part}
 use Rattle.byte_lists.proofs.Parts.{part_in}
 use Rattle.faults.specs.declared.device.DeviceFault.{DeviceFault}
-use Rattle.faults.specs.declared.device.DeviceFault.TheVariants.{Range}
-use Rattle.device.specs.Meanings.{Meaning, within, refuses, refusal, answer, filled}
+use Rattle.device.specs.Meanings.{Meaning, answer, filled}
 use Rattle.cache.specs.declared.pages.Page.{Page}
 use Rattle.cache.specs.Pages.{page_at, page_for, EqualTo, AllEqual}
 
@@ -42,12 +41,3 @@ pub read_done :
     → piece ≡ new
 read_done None r new old piece a k e = e
 read_done (Some f) r new old piece a k e = absurd (false≢true (sym (ap is_ok a) ∙ k))
-
--- what refuses a whole sector of the device
-pub whole_sector : (m : Meaning) (s : ℕ) → s < m.sectors → refusal m (512 * s) 512 ≡ refuses m s
-whole_sector m s low =
-    let q : 512 * s / 512 ≡ s = omega arith in
-    let inside : within m.sectors (512 * s) 512 ≡ true =
-    and_from _ _ (lt-ltb 0 512 (omega arith))
-    (and_from _ _ (le-leb (512 * s % 512 + 512) 512 (omega arith)) (le-leb (512 * s + 512) (512 * m.sectors) (omega arith))) in
-    cond-true (within m.sectors (512 * s) 512) (refuses m (512 * s / 512)) (Some Range) inside ∙ ap (refuses m) q

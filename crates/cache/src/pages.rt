@@ -7,6 +7,7 @@ ghost use Rattle.cache.specs.Pages.{page_at, page_of, kept, emptied};
 use byte_lists::slices::{copy_part, lay_over};
 
 /// A page: the sector that it keeps, if any, and that sector's bytes.
+// The bytes stay beside none, since a page is lent from the table and filled in place.
 #[derive(Clone, Copy)]
 pub(crate) struct Page {
     sector: Option<u32>,
@@ -42,6 +43,7 @@ impl Page {
 #[derive(Clone, Copy)]
 pub(crate) struct Pages {
     table: [Page; 8],
+    ghost eight: { length table ≡ 8 },
 }
 
 impl Pages {
@@ -59,19 +61,14 @@ impl Pages {
 
     /// Whether a sector is kept.
     pub(crate) fn keeps(&self, sector: u32) -> bool
-        ensures eight { length self.now.table ≡ 8 }
-        ensures answer { result ≡ kept self.now.table sector }
+        ensures { result ≡ kept self.now.table sector }
     {
-        match self.table[sector as usize % 8].sector {
-            Some(other) => other == sector,
-            None => false,
-        }
+        self.table[sector as usize % 8].sector == Some(sector)
     }
 
     /// Fills the page of a sector, and touches no other page.
     pub(crate) fn fill(&mut self, sector: u32, bytes: [u8; 512])
-        ensures eight { length self.old.table ≡ 8 }
-        ensures after { self.new.table ≡ set self.old.table (sector % 8) (record { sector = Some sector; bytes = bytes }) }
+        ensures { self.new.table ≡ set self.old.table (sector % 8) (record { sector = Some sector; bytes = bytes }) }
     {
         let page = &mut self.table[sector as usize % 8];
         page.keep(sector, bytes);
@@ -79,8 +76,7 @@ impl Pages {
 
     /// Empties the page of a sector, and touches no other page.
     pub(crate) fn forget(&mut self, sector: u32)
-        ensures eight { length self.old.table ≡ 8 }
-        ensures after { self.new.table ≡ set self.old.table (sector % 8) (emptied (page_of self.old.table sector)) }
+        ensures { self.new.table ≡ set self.old.table (sector % 8) (emptied (page_of self.old.table sector)) }
     {
         let old = &mut self.table[sector as usize % 8];
         old.empty();
@@ -89,8 +85,7 @@ impl Pages {
     /// Lays a piece over the page of its sector if that is kept, and touches no other page.
     pub(crate) fn update(&mut self, place: u32, piece: &[u8])
         requires { place % 512 + length piece.now ≤ 512 }
-        ensures eight { length self.old.table ≡ 8 }
-        ensures after { self.new.table ≡ (if kept self.old.table (place / 512) then set self.old.table (place / 512 % 8) (record { sector = Some (place / 512); bytes = laid (page_of self.old.table (place / 512)).bytes (place % 512) piece.now }) else self.old.table) }
+        ensures { self.new.table ≡ (if kept self.old.table (place / 512) then set self.old.table (place / 512 % 8) (record { sector = Some (place / 512); bytes = laid (page_of self.old.table (place / 512)).bytes (place % 512) piece.now }) else self.old.table) }
     {
         if self.keeps(place / 512) {
             let page = &mut self.table[place as usize / 512 % 8];

@@ -5,7 +5,6 @@ ghost use Rattle.device.specs.Meanings.{within};
 
 /// Whether a piece of `n` bytes at `place` lies inside one of the first sectors.
 pub fn is_within(sectors: u32, place: u32, n: usize) -> bool
-    requires { sectors ≤ 8388607 }
     ensures { result ≡ within sectors place n }
 {
     if n == 0 || n > 512 {

@@ -28,20 +28,14 @@ pub(crate) enum Ask {
 }
 
 /// Asks in turn.
-pub(crate) fn expect<D: WritableDevice>(device: &mut D, asks: &[Ask]) -> Result<(), Fail>
-    requires { D.Device.sound device.old }
-    ensures { D.Device.sound device.new }
-{
+pub(crate) fn expect<D: WritableDevice>(device: &mut D, asks: &[Ask]) -> Result<(), Fail> {
     for ask in asks {
         expect_one(device, *ask)?;
     }
     Ok(())
 }
 
-fn expect_one<D: WritableDevice>(device: &mut D, ask: Ask) -> Result<(), Fail>
-    requires { D.Device.sound device.old }
-    ensures { D.Device.sound device.new }
-{
+fn expect_one<D: WritableDevice>(device: &mut D, ask: Ask) -> Result<(), Fail> {
     match ask {
         Ask::State(sector, want) => expect_state(device, sector, want),
         Ask::Read(place, n, want) => expect_read(device, place, n, want),
@@ -51,10 +45,11 @@ fn expect_one<D: WritableDevice>(device: &mut D, ask: Ask) -> Result<(), Fail>
 }
 
 /// The answer that a sector's state must give.
-pub(crate) fn expect_state<D: Device>(device: &mut D, sector: u32, want: Answer) -> Result<(), Fail>
-    requires { D.Device.sound device.old }
-    ensures { D.Device.sound device.new }
-{
+pub(crate) fn expect_state<D: Device>(
+    device: &mut D,
+    sector: u32,
+    want: Answer,
+) -> Result<(), Fail> {
     let got = device.state(sector);
     check_eq(got, want)
 }
@@ -65,24 +60,15 @@ pub(crate) fn expect_read<D: Device>(
     place: u32,
     n: usize,
     want: Answer,
-) -> Result<(), Fail>
-    requires { D.Device.sound device.old }
-    ensures { D.Device.sound device.new }
-{
+) -> Result<(), Fail> {
     let mut buffer = [170; 600];
     let got = read_part(device, place, &mut buffer, n);
     check_eq(got, want)?;
-    match got {
-        Ok(()) => Ok(()),
-        Err(_) => { check(is_filled(&buffer, 170)) },
-    }
+    check(got.is_ok() || is_filled(&buffer, 170))
 }
 
 /// Reads into the front of a buffer.
-fn read_part<D: Device>(device: &mut D, place: u32, buffer: &mut [u8], n: usize) -> Answer
-    requires { D.Device.sound device.old }
-    ensures { D.Device.sound device.new }
-{
+fn read_part<D: Device>(device: &mut D, place: u32, buffer: &mut [u8], n: usize) -> Answer {
     let end = n.min(buffer.len());
     device.read(place, &mut buffer[0..end])
 }
@@ -93,19 +79,13 @@ fn expect_write<D: WritableDevice>(
     n: usize,
     byte: u8,
     want: Answer,
-) -> Result<(), Fail>
-    requires { D.Device.sound device.old }
-    ensures { D.Device.sound device.new }
-{
+) -> Result<(), Fail> {
     let buffer = [byte; 600];
     let got = device.write(place, &buffer[0..n.min(600)]);
     check_eq(got, want)
 }
 
-fn expect_byte<D: Device>(device: &mut D, place: u32, want: u8) -> Result<(), Fail>
-    requires { D.Device.sound device.old }
-    ensures { D.Device.sound device.new }
-{
+fn expect_byte<D: Device>(device: &mut D, place: u32, want: u8) -> Result<(), Fail> {
     let mut piece = [0; 1];
     device.read(place, &mut piece)?;
     check_eq(piece[0], want)
@@ -113,10 +93,5 @@ fn expect_byte<D: Device>(device: &mut D, place: u32, want: u8) -> Result<(), Fa
 
 /// Whether every byte is this one.
 fn is_filled(bytes: &[u8], byte: u8) -> bool {
-    for b in bytes {
-        if *b != byte {
-            return false;
-        }
-    }
-    true
+    bytes.iter().all(|b| *b == byte)
 }

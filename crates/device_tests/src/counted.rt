@@ -15,10 +15,8 @@ pub(crate) struct Counted<D> {
 impl<D: Device> Counted<D> {
     /// No read yet.
     pub(crate) fn new(below: D) -> Counted<D>
-        requires { D.Device.sound below }
         ensures meaning { D.Device.meaning result.below ≡ D.Device.meaning below }
         ensures reads { result.reads ≡ 0 }
-        ensures sound { D.Device.sound result.below }
     {
         Counted { below, reads: 0 }
     }
@@ -34,7 +32,7 @@ impl<D: Device> Counted<D> {
 impl<D: Device> Device for Counted<D> {
     ghost meaning = { λ d. D.Device.meaning d.below };
 
-    ghost sound = { λ d. D.Device.sound d.below };
+    ghost whole = { λ d. D.Device.whole d.below };
 
     fn size(&self) -> u32 {
         self.below.size()

@@ -1,21 +1,17 @@
 //! Marks: sixteen of them, the seventeenth, and a sector marked twice.
 
-ghost use Rattle.marks.specs.Layers.{sound_over};
-
 use crate::asks::*;
 use checks::check_eq;
 use device::device::Device;
 use faults::device::DeviceFault;
+use faults::report::Report;
 use marks::fault::MarkFault;
 use marks::layer::Marked;
 use memory::reading::ReadMemory;
 use std::test::Fail;
 
 /// Marks the sectors from one to another; each must be done.
-fn mark_up_to<D: Device>(device: &mut Marked<D>, from: u32, to: u32) -> Result<(), Fail>
-    requires { sound_over D.Device.sound device.old }
-    ensures { sound_over D.Device.sound device.new }
-{
+fn mark_up_to<D: Device>(device: &mut Marked<D>, from: u32, to: u32) -> Result<(), Fail> {
     for sector in from..to {
         device.mark(sector)?;
     }
@@ -23,10 +19,7 @@ fn mark_up_to<D: Device>(device: &mut Marked<D>, from: u32, to: u32) -> Result<(
 }
 
 /// The first sectors, up to one, must be bad, and that one not.
-fn expect_bad_up_to<D: Device>(device: &mut D, to: u8) -> Result<(), Fail>
-    requires { D.Device.sound device.old }
-    ensures { D.Device.sound device.new }
-{
+fn expect_bad_up_to<D: Device>(device: &mut D, to: u8) -> Result<(), Fail> {
     for sector in 0..to {
         expect_state(
             device,
@@ -41,10 +34,7 @@ fn expect_bad_up_to<D: Device>(device: &mut D, to: u8) -> Result<(), Fail>
 fn expect_marks<D: Device>(
     device: &mut Marked<D>,
     cases: &[(u32, Result<(), MarkFault>)],
-) -> Result<(), Fail>
-    requires { sound_over D.Device.sound device.old }
-    ensures { sound_over D.Device.sound device.new }
-{
+) -> Result<(), Fail> {
     for (sector, want) in cases {
         let got = device.mark(*sector);
         check_eq(got, *want)?;
@@ -105,6 +95,6 @@ fn marks_move_to_another_device() -> Result<(), Fail> {
 
 #[test]
 fn reports(rt: HostRuntime) {
-    assert_eq!(rt; MarkFault::Range.report().number, 11);
-    assert_eq!(rt; MarkFault::Full.report().number, 29);
+    assert_eq!(rt; Report::from(MarkFault::Range).number, 11);
+    assert_eq!(rt; Report::from(MarkFault::Full).number, 29);
 }

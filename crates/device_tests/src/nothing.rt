@@ -5,7 +5,7 @@ use device::device::Device;
 use marks::fault::MarkFault;
 use memory::reading::ReadMemory;
 use memory::writing::{Budget, RootTear, WriteMemory};
-use stacks::{cache_over_marks, marks_over_cache};
+use stacks::over_memory::{CacheOverMarks, MarksOverCache, OverMemory};
 use std::test::Fail;
 
 const ASKS: [Ask; 3] = [
@@ -34,7 +34,7 @@ fn write_memory(rt: HostRuntime) -> Result<(), Fail> {
 #[test]
 fn cache_over_marks_over_memory(rt: HostRuntime) -> Result<(), Fail> {
     let mut bytes = [1; 511];
-    let mut device = cache_over_marks::over_memory(&mut bytes, Budget::Count(0), RootTear::All);
+    let mut device = CacheOverMarks::over(&mut bytes, Budget::Count(0), RootTear::All);
     assert_eq!(rt; device.size(), 0);
     assert_eq!(rt; device.mark(0), Err(MarkFault::Range));
     expect(&mut device, &ASKS)
@@ -43,7 +43,7 @@ fn cache_over_marks_over_memory(rt: HostRuntime) -> Result<(), Fail> {
 #[test]
 fn marks_over_cache_over_memory(rt: HostRuntime) -> Result<(), Fail> {
     let mut bytes = [1; 511];
-    let mut device = marks_over_cache::over_memory(&mut bytes, Budget::Count(0), RootTear::All);
+    let mut device = MarksOverCache::over(&mut bytes, Budget::Count(0), RootTear::All);
     assert_eq!(rt; device.size(), 0);
     assert_eq!(rt; device.mark(0), Err(MarkFault::Range));
     expect(&mut device, &ASKS)

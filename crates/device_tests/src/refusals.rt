@@ -51,10 +51,7 @@ const POWERS: [Ask; 8] = [
 ];
 
 /// The whole order on a device of four sectors whose sector 2 is bad and that has no write left.
-fn in_order<D: WritableDevice>(device: &mut D) -> Result<(), Fail>
-    requires { D.Device.sound device.old }
-    ensures { D.Device.sound device.new }
-{
+fn in_order<D: WritableDevice>(device: &mut D) -> Result<(), Fail> {
     expect(device, &RANGES)?;
     expect(device, &BADS)?;
     expect(device, &[Ask::Write(1536, 1, 2, POWER)])?;

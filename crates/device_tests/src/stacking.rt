@@ -1,9 +1,12 @@
 //! Stacks over memory for writing, in both orders.
 
 use crate::asks::*;
+use checks::check_eq;
+use device::device::WritableDevice;
 use faults::device::DeviceFault;
 use memory::writing::{Budget, RootTear};
-use stacks::{cache_over_marks, marks_over_cache};
+use stacks::over_memory::{CacheOverMarks, MarksOverCache, OverMemory};
+use stacks::sectors::rewrite;
 use std::test::Fail;
 
 /// A torn write of five bytes, and what is refused until power returns.
@@ -18,60 +21,63 @@ const AGAIN: [Ask; 5] = [
     Ask::Write(0, 2, 8, POWER),
 ];
 
-#[test]
-fn cache_over_marks_rewrites(rt: HostRuntime) -> Result<(), Fail> {
-    let mut bytes = [1; 4096];
+/// A sector that is bad, one that is not there, and one that is written while a write is left.
+fn expect_rewrites<D: WritableDevice>(stack: &mut D) -> Result<(), Fail> {
     let new = [5; 512];
-    let mut stack = cache_over_marks::over_memory(&mut bytes, Budget::Count(1), RootTear::All);
-    stack.mark(3)?;
-    assert!(rt;
-        cache_over_marks::rewrite_sector(&mut stack, 3, &new) == Err(DeviceFault::Bad(1536))
-    );
-    assert!(rt; cache_over_marks::rewrite_sector(&mut stack, 8, &new) == Err(DeviceFault::Range));
-    assert!(rt; cache_over_marks::rewrite_sector(&mut stack, 2, &new) == Ok(new));
-    assert!(rt; cache_over_marks::rewrite_sector(&mut stack, 2, &new) == Err(DeviceFault::Power));
-    Ok(())
+    check_eq(rewrite(stack, 3, &new), Err(DeviceFault::Bad(1536)))?;
+    check_eq(rewrite(stack, 8, &new), Err(DeviceFault::Range))?;
+    check_eq(rewrite(stack, 2, &new), Ok(new))?;
+    check_eq(rewrite(stack, 2, &new), Err(DeviceFault::Power))
+}
+
+/// A cut, a restart, a cut in sector 0 that stores what `tear` says, and the bytes that are there then.
+fn expect_restarts<'a, D: OverMemory<'a> + Drop>(
+    stack: D,
+    tear: RootTear,
+    left: &[Ask],
+) -> Result<(), Fail> {
+    let mut stack = stack;
+    expect(&mut stack, &[Ask::Byte(1024, 1)])?;
+    let mut stack = stack.with_writes(Budget::Count(0), RootTear::Nothing);
+    expect(&mut stack, &CUT)?;
+    let mut stack = stack.restart(Budget::Count(1), tear);
+    expect(&mut stack, &AGAIN)?;
+    let mut stack = stack.restart(Budget::Endless, RootTear::All);
+    expect(&mut stack, left)
 }
 
 #[test]
-fn marks_over_cache_rewrite(rt: HostRuntime) -> Result<(), Fail> {
+fn cache_over_marks_rewrites() -> Result<(), Fail> {
     let mut bytes = [1; 4096];
-    let new = [5; 512];
-    let mut stack = marks_over_cache::over_memory(&mut bytes, Budget::Count(1), RootTear::All);
+    let mut stack = CacheOverMarks::over(&mut bytes, Budget::Count(1), RootTear::All);
     stack.mark(3)?;
-    assert!(rt;
-        marks_over_cache::rewrite_sector(&mut stack, 3, &new) == Err(DeviceFault::Bad(1536))
-    );
-    assert!(rt; marks_over_cache::rewrite_sector(&mut stack, 8, &new) == Err(DeviceFault::Range));
-    assert!(rt; marks_over_cache::rewrite_sector(&mut stack, 2, &new) == Ok(new));
-    assert!(rt; marks_over_cache::rewrite_sector(&mut stack, 2, &new) == Err(DeviceFault::Power));
-    Ok(())
+    expect_rewrites(&mut stack)
+}
+
+#[test]
+fn marks_over_cache_rewrite() -> Result<(), Fail> {
+    let mut bytes = [1; 4096];
+    let mut stack = MarksOverCache::over(&mut bytes, Budget::Count(1), RootTear::All);
+    stack.mark(3)?;
+    expect_rewrites(&mut stack)
 }
 
 #[test]
 fn cache_over_marks_restarts() -> Result<(), Fail> {
     let mut bytes = [1; 4096];
-    let mut stack = cache_over_marks::over_memory(&mut bytes, Budget::Endless, RootTear::All);
+    let mut stack = CacheOverMarks::over(&mut bytes, Budget::Endless, RootTear::All);
     stack.mark(3)?;
-    expect(&mut stack, &[Ask::Byte(1024, 1)])?;
-    let mut stack = cache_over_marks::with_writes(stack, Budget::Count(0), RootTear::Nothing);
-    expect(&mut stack, &CUT)?;
-    let mut stack = cache_over_marks::restart(stack, Budget::Count(1), RootTear::All);
-    expect(&mut stack, &AGAIN)?;
-    let mut stack = cache_over_marks::restart(stack, Budget::Endless, RootTear::All);
-    expect(&mut stack, &[Ask::Byte(0, 8), Ask::Byte(1, 8)])
+    expect_restarts(stack, RootTear::All, &[Ask::Byte(0, 8), Ask::Byte(1, 8)])
 }
 
 #[test]
 fn marks_over_cache_restart() -> Result<(), Fail> {
     let mut bytes = [1; 4096];
-    let mut stack = marks_over_cache::over_memory(&mut bytes, Budget::Endless, RootTear::All);
+    let mut stack = MarksOverCache::over(&mut bytes, Budget::Endless, RootTear::All);
     stack.mark(3)?;
-    expect(&mut stack, &[Ask::Byte(1024, 1)])?;
-    let mut stack = marks_over_cache::with_writes(stack, Budget::Count(0), RootTear::Nothing);
-    expect(&mut stack, &CUT)?;
-    let mut stack = marks_over_cache::restart(stack, Budget::Count(1), RootTear::Nothing);
-    expect(&mut stack, &AGAIN)?;
-    let mut stack = marks_over_cache::restart(stack, Budget::Endless, RootTear::All);
-    expect(&mut stack, &[Ask::Byte(0, 7), Ask::Byte(1, 1)])
+    expect_restarts(
+        stack,
+        RootTear::Nothing,
+        &[Ask::Byte(0, 7), Ask::Byte(1, 1)],
+    )
 }

@@ -1,9 +1,9 @@
 //! A write at every number of writes left, with every setting.
 
 use crate::asks::*;
-use byte_lists::slices::equal;
-use checks::check;
+use checks::check_eq;
 use memory::writing::{Budget, RootTear, WriteMemory};
+use std::array;
 use std::test::Fail;
 
 /// Place and length of the pieces that are written in turn; piece `i` is made of bytes `10 + i`.
@@ -36,18 +36,15 @@ fn stored(piece: usize, left: usize, tear: RootTear) -> u32 {
 
 /// Sets so many bytes from a place on.
 fn fill(bytes: &mut [u8], place: u32, n: u32, byte: u8) {
-    for (i, b) in bytes.iter_mut().enumerate() {
-        if i as u64 >= place as u64 && (i as u64) < place as u64 + n as u64 {
-            *b = byte;
-        }
+    for b in bytes.iter_mut().skip(place as usize).take(n as usize) {
+        *b = byte;
     }
 }
 
 /// What the memory must hold in the end.
 fn fill_all(bytes: &mut [u8], left: usize, tear: RootTear) {
-    for piece in 0..6usize {
-        let (place, _) = PIECES[piece];
-        fill(bytes, place, stored(piece, left, tear), 10 + piece as u8);
+    for (piece, (place, _)) in PIECES.iter().enumerate() {
+        fill(bytes, *place, stored(piece, left, tear), 10 + piece as u8);
     }
 }
 
@@ -55,18 +52,11 @@ fn fill_all(bytes: &mut [u8], left: usize, tear: RootTear) {
 fn run(budget: Budget, left: usize, tear: RootTear) -> Result<(), Fail> {
     let mut bytes = [1; 1600];
     let mut device = WriteMemory::new(&mut bytes, budget, tear);
-    let writes = [
-        write_of(0, left),
-        write_of(1, left),
-        write_of(2, left),
-        write_of(3, left),
-        write_of(4, left),
-        write_of(5, left),
-    ];
+    let writes: [Ask; 6] = array::from_fn(|piece| write_of(piece, left));
     expect(&mut device, &writes)?;
     let mut want = [1; 1600];
     fill_all(&mut want, left, tear);
-    check(equal(device.into_bytes(), &want))
+    check_eq(&*device.into_bytes(), want.as_slice())
 }
 
 #[test]

@@ -16,10 +16,6 @@ below_of d = d.below
 abbrev pub meaning_over : {D : Type 0} → (D → Meaning) → Marked D → Meaning
 meaning_over below d = marked (marks_of d) (below (below_of d))
 
--- what it rests on: what the device below rests on
-abbrev pub sound_over : {D : Type 0} → (D → Type 0) → Marked D → Type 0
-sound_over below d = below (below_of d)
-
 -- what reading and writing leave as it was, beside what the meaning says: the marks, and the conditions of the sectors below
 pub record Keeps {D : Type 0} (below : D → Meaning) (d d' : Marked D) : Type 0 where
   pub marks : marks_of d' ≡ marks_of d

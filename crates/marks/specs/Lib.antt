@@ -1,3 +1,4 @@
 pub mod MarkReports
 pub mod Marks
 pub mod Layers
+pub mod Whole

@@ -1,5 +1,6 @@
 -- What marks make of a device, and what refuses a mark.
-use Rattle.std.specs.Prelude.{◌≡◌, ℕ, min, Bool, false, cond, ◌||◌, List, [], ◌∷◌, ◌++◌, length, take, Some, None, Ok, Err, Option, Result, ◌==◌, nat_lt}
+use Rattle.std.specs.Prelude.{◌≡◌, ℕ, ◌<◌, min, Bool, cond, List, [], ◌∷◌, ◌++◌, length, take, Some, None, Ok, Err, Option, Result, ◌==◌, nat_lt}
+use Rattle.std.specs.List.{list_any}
 use Rattle.device.specs.Meanings.{Meaning, Condition, bad}
 use Rattle.marks.specs.declared.fault.MarkFault.{MarkFault}
 use Rattle.marks.specs.declared.fault.MarkFault.TheVariants.{Range, Full}
@@ -11,8 +12,18 @@ sectors_of marks = take (min marks.count 16) marks.sectors
 
 -- sector s is among these
 abbrev pub member : ℕ → List ℕ → Bool
-member s [] = false
-member s (x ∷ xs) = x == s || member s xs
+member s xs = list_any (λ x. x == s) xs
+
+-- one sector more, where fewer than sixteen are marked
+pub record Adds (xs : List ℕ) (s : ℕ) (xs' : List ℕ) : Type 0 where
+  pub room : length xs < 16
+  pub more : xs' ≡ xs ++ s ∷ []
+
+-- none more, where sixteen are marked
+pub record AddsNone (xs xs' : List ℕ) (f : MarkFault) : Type 0 where
+  pub full : length xs ≡ 16
+  pub fault : f ≡ Full
+  pub same : xs' ≡ xs
 
 -- the condition of a marked sector, whatever it was
 abbrev pub marked_condition : Condition → Condition

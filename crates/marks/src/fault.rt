@@ -14,22 +14,14 @@ pub enum MarkFault {
     Full,
 }
 
-impl MarkFault {
-    /// Its number; no table and no place are meant.
-    pub fn report(&self) -> Report
-        ensures { result ≡ mark_report self.now }
-    {
-        match *self {
-            MarkFault::Range => Report {
-                number: 11,
-                table: 256,
-                place: 0,
-            },
-            MarkFault::Full => Report {
-                number: 29,
-                table: 256,
-                place: 0,
-            },
+/// A refusal to mark is told by its number; no table and no place are meant.
+impl From<MarkFault> for Report {
+    ghost from_gives = { λ fault report. report ≡ mark_report fault };
+
+    fn from(fault: MarkFault) -> Report {
+        match fault {
+            MarkFault::Range => Report::bare(11),
+            MarkFault::Full => Report::bare(29),
         }
     }
 }

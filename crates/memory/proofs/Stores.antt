@@ -146,3 +146,10 @@ torn_over t xs xs' ys p on w whole free b e =
       sectors = sym (ap (λ (n : Meaning). n.sectors) m);
       tail = tail_laid xs xs' (take k ys) p a e;
     }
+
+-- the same, where so many bytes of the piece as a torn write stores were laid over
+pub torn_from :
+    (t : RootTear) (xs xs' ys : List ℕ) (p n : ℕ) (on : Bool) (w : Writes) → Whole (memory xs on w) → refusal (memory xs on w) p (length ys) ≡ None → Bytes ys
+    → n ≡ torn_stored t p (length ys) → xs' ≡ laid xs p (take n ys) → TornOver t xs xs' ys p on w
+torn_from t xs xs' ys p n on w whole free b e f =
+    torn_over t xs xs' ys p on w whole free b (subst (λ (k : ℕ). xs' ≡ laid xs p (take k ys)) e f)

@@ -3,6 +3,7 @@
 ghost use Rattle.std.specs.Prelude.{◌≡◌};
 ghost use Rattle.std.specs.Option.{option_map};
 ghost use Rattle.device.specs.Meanings.{Whole, spent};
+ghost use Rattle.std.proofs.Props.{props};
 ghost use Rattle.memory.specs.Memories.{memory, fitting};
 ghost use Rattle.memory.specs.Writing.{writes, torn_stored};
 
@@ -14,6 +15,7 @@ use device::device::Device;
 use faults::device::DeviceFault;
 
 /// The writes that a memory has left.
+// An `Option<u32>` would be no plainer: its `None` would read as no write, and stands for any number.
 #[derive(Clone, Copy)]
 pub enum Budget {
     /// Any number.
@@ -32,6 +34,7 @@ pub enum RootTear {
 }
 
 /// Memory that is lent for reading and writing.
+// Power and the writes left are two fields: power that goes leaves the writes as they are.
 #[derive(Drop)]
 pub struct WriteMemory<'a> {
     bytes: &'a mut [u8],
@@ -39,6 +42,8 @@ pub struct WriteMemory<'a> {
     left: Budget,
     power: bool,
     tear: RootTear,
+    ghost count: { sectors ≡ fitting bytes.now },
+    ghost whole: { Whole (memory bytes.now power (writes left)) } by { Prim.hlevel props },
 }
 
 impl Budget {
@@ -48,11 +53,7 @@ impl Budget {
     {
         match self {
             Budget::Endless => Some(Budget::Endless),
-            Budget::Count(n) => if n == 0 {
-                None
-            } else {
-                Some(Budget::Count(n - 1))
-            },
+            Budget::Count(n) => n.checked_sub(1).map(Budget::Count),
         }
     }
 }
@@ -72,10 +73,11 @@ impl RootTear {
     }
 }
 
+// The methods of the type itself say more than the trait, which the `impl` of a trait cannot for a type with a lifetime.
 impl<'a> Device for WriteMemory<'a> {
     ghost meaning = { λ d. memory d.bytes.now d.power (writes d.left) };
 
-    ghost sound = { λ d. (d.sectors ≡ fitting d.bytes.now) × Whole (memory d.bytes.now d.power (writes d.left)) };
+    ghost whole = { λ d. d.whole };
 
     fn size(&self) -> u32 {
         self.sectors

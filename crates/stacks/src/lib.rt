@@ -1,6 +1,5 @@
-//! Stacks of devices over memory for writing, in both orders, and code for any of them.
+//! Stacks of devices over memory for writing, and code for any device.
 #![tactic(auto)]
 
-pub mod cache_over_marks;
-pub mod marks_over_cache;
+pub mod over_memory;
 pub mod sectors;

@@ -2,7 +2,7 @@
 
 ghost use Rattle.std.specs.Prelude.{◌≡◌, ◌*◌, IfOk};
 ghost use Rattle.std.specs.Result.{result_map_both};
-ghost use Rattle.device.specs.Meanings.{Written, Whole};
+ghost use Rattle.device.specs.Meanings.{Written};
 
 use device::device::{Device, WritableDevice};
 use faults::device::DeviceFault;
@@ -13,10 +13,8 @@ pub fn rewrite<D: WritableDevice>(
     sector: u32,
     new: &[u8; 512],
 ) -> Result<[u8; 512], DeviceFault>
-    requires { D.Device.sound device.old }
     ensures written { Written (D.Device.meaning device.old) (512 * sector) new.now (result_map_both (λ _. tt) (λ f. f) result) (D.Device.meaning device.new) }
     ensures again { IfOk result (λ bytes. bytes ≡ new.now) }
-    ensures sound { D.Device.sound device.new }
 {
     if sector >= device.size() {
         return Err(DeviceFault::Range);

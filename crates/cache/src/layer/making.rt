@@ -2,9 +2,9 @@
 
 ghost use Rattle.std.specs.Prelude.{◌≡◌, ℕ, ◌<◌, None};
 ghost use Rattle.marks.specs.Marks.{Marking};
-ghost use Rattle.marks.specs.Layers.{marks_of, meaning_over as marked_meaning, sound_over as marked_sound};
+ghost use Rattle.marks.specs.Layers.{marks_of, meaning_over as marked_meaning};
 ghost use Rattle.cache.specs.Pages.{page_at};
-ghost use Rattle.cache.specs.Caches.{pages_of, below_of, meaning_over, sound_over};
+ghost use Rattle.cache.specs.Caches.{pages_of, below_of, meaning_over};
 
 use super::Cache;
 use crate::pages::Pages;
@@ -15,11 +15,9 @@ use marks::layer::Marked;
 impl<D: Device> Cache<D> {
     /// A cache over a device, with every page empty.
     pub fn new(below: D) -> Cache<D>
-        requires { D.Device.sound below }
         ensures meaning { meaning_over D.Device.meaning result ≡ D.Device.meaning below }
         ensures below { below_of result ≡ below }
         ensures pages { (k : ℕ) → k < 8 → (page_at (pages_of result) k).sector ≡ None }
-        ensures sound { sound_over D.Device.meaning D.Device.sound result }
     {
         Cache {
             below,
@@ -29,10 +27,8 @@ impl<D: Device> Cache<D> {
 
     /// The device below.
     pub fn into_below(self) -> D
-        requires { sound_over D.Device.meaning D.Device.sound self }
         ensures meaning { D.Device.meaning result ≡ meaning_over D.Device.meaning self }
         ensures below { result ≡ below_of self }
-        ensures sound { D.Device.sound result }
     {
         let Cache { below, pages: _ } = self;
         below
@@ -42,19 +38,8 @@ impl<D: Device> Cache<D> {
 impl<D: Device> Cache<Marked<D>> {
     /// Marks a sector of the bad-sector layer below, as that layer does. The pages stay, since no byte changes.
     pub fn mark(&mut self, sector: u32) -> Result<(), MarkFault>
-        requires { sound_over (marked_meaning D.Device.meaning) (marked_sound D.Device.sound) self.old }
         ensures marking { Marking (marks_of (below_of self.old)) (meaning_over (marked_meaning D.Device.meaning) self.old) sector result (marks_of (below_of self.new)) (meaning_over (marked_meaning D.Device.meaning) self.new) }
         ensures pages { pages_of self.new ≡ pages_of self.old }
-        ensures sound { sound_over (marked_meaning D.Device.meaning) (marked_sound D.Device.sound) self.new }
-    {
-        self.mark_below(sector)
-    }
-
-    fn mark_below(&mut self, sector: u32) -> Result<(), MarkFault>
-        requires { sound_over (marked_meaning D.Device.meaning) (marked_sound D.Device.sound) self.old }
-        ensures marking { Marking (marks_of (below_of self.old)) (meaning_over (marked_meaning D.Device.meaning) self.old) sector result (marks_of (below_of self.new)) (meaning_over (marked_meaning D.Device.meaning) self.new) }
-        ensures pages { pages_of self.new ≡ pages_of self.old }
-        ensures sound { sound_over (marked_meaning D.Device.meaning) (marked_sound D.Device.sound) self.new }
     {
         self.below.mark(sector)
     }

@@ -4,7 +4,7 @@ ghost use Rattle.std.specs.Prelude.{◌≡◌, ◌+◌, ◌*◌, ◌/◌, ◌%�
 ghost use Rattle.byte_lists.specs.Bytes.{part};
 ghost use Rattle.device.specs.Meanings.{answer, refuses};
 ghost use Rattle.cache.specs.Pages.{page_of, page_for, kept, after_read};
-ghost use Rattle.cache.specs.Caches.{pages_of, meaning_over, sound_over};
+ghost use Rattle.cache.specs.Caches.{pages_of, meaning_over};
 
 use super::Cache;
 use device::device::Device;
@@ -13,11 +13,9 @@ use faults::device::DeviceFault;
 impl<D: Device> Cache<D> {
     /// Brings a sector into its page, unless it is there. A hit asks for the sector's state too.
     pub(super) fn bring(&mut self, sector: u32) -> Result<(), DeviceFault>
-        requires sound { sound_over D.Device.meaning D.Device.sound self.old }
         requires within { (0 < sector) × ((sector < (meaning_over D.Device.meaning self.old).sectors) × (sector < 8388607)) }
         ensures answer { result ≡ answer (refuses (meaning_over D.Device.meaning self.old) sector) }
         ensures same { meaning_over D.Device.meaning self.new ≡ meaning_over D.Device.meaning self.old }
-        ensures sound { sound_over D.Device.meaning D.Device.sound self.new }
         ensures pages { pages_of self.new ≡ after_read (refuses (meaning_over D.Device.meaning self.old) sector) (meaning_over D.Device.meaning self.old) sector (pages_of self.old) }
         ensures page { is_ok result ≡ true → (page_of (pages_of self.new) sector).bytes ≡ part (meaning_over D.Device.meaning self.new).bytes (512 * sector) 512 }
     {
@@ -30,11 +28,9 @@ impl<D: Device> Cache<D> {
 
     /// Fills the page of a sector that can be read.
     fn fill(&mut self, sector: u32) -> Result<(), DeviceFault>
-        requires sound { sound_over D.Device.meaning D.Device.sound self.old }
         requires within { (0 < sector) × ((sector < (meaning_over D.Device.meaning self.old).sectors) × (sector < 8388607)) }
         ensures answer { result ≡ answer (refuses (meaning_over D.Device.meaning self.old) sector) }
         ensures same { meaning_over D.Device.meaning self.new ≡ meaning_over D.Device.meaning self.old }
-        ensures sound { sound_over D.Device.meaning D.Device.sound self.new }
         ensures pages { (is_ok result ≡ true → pages_of self.new ≡ slice_set (pages_of self.old) (sector % 8) (page_for (meaning_over D.Device.meaning self.old) sector)) × (is_ok result ≡ false → pages_of self.new ≡ pages_of self.old) }
         ensures page { is_ok result ≡ true → (page_of (pages_of self.new) sector).bytes ≡ part (meaning_over D.Device.meaning self.new).bytes (512 * sector) 512 }
     {

@@ -1,9 +1,9 @@
 //! Writing through a cache.
 
 ghost use Rattle.std.specs.Prelude.{◌≡◌, ◌/◌, length, None};
-ghost use Rattle.device.specs.Meanings.{Whole, refusal, spent, Written};
+ghost use Rattle.device.specs.Meanings.{refusal, spent, Written};
 ghost use Rattle.cache.specs.Pages.{after_write};
-ghost use Rattle.cache.specs.Caches.{pages_of, meaning_over, sound_over};
+ghost use Rattle.cache.specs.Caches.{pages_of, meaning_over};
 
 use super::Cache;
 use device::checks::is_within;
@@ -13,12 +13,8 @@ use faults::device::DeviceFault;
 impl<D: WritableDevice> Cache<D> {
     /// Writes below what nothing refuses, and then mends the page of the sector.
     fn write_through(&mut self, place: u32, piece: &[u8]) -> Result<(), DeviceFault>
-        requires sound { sound_over D.Device.meaning D.Device.sound self.old }
         requires free { refusal (meaning_over D.Device.meaning self.old) place (length piece.now) ≡ None }
         ensures written { Written (meaning_over D.Device.meaning self.old) place piece.now result (meaning_over D.Device.meaning self.new) }
-        ensures whole { Whole (meaning_over D.Device.meaning self.old) }
-        ensures still { Whole (meaning_over D.Device.meaning self.new) }
-        ensures sound { sound_over D.Device.meaning D.Device.sound self.new }
         ensures pages { pages_of self.new ≡ after_write None (spent (meaning_over D.Device.meaning self.old).left) (meaning_over D.Device.meaning self.new) (place / 512) (pages_of self.old) }
     {
         let done = self.below.write(place, piece);
@@ -32,11 +28,7 @@ impl<D: WritableDevice> Cache<D> {
 
 impl<D: WritableDevice> WritableDevice for Cache<D> {
     fn write(&mut self, place: u32, piece: &[u8]) -> Result<(), DeviceFault>
-        requires { sound_over D.Device.meaning D.Device.sound self.old }
         ensures written { Written (meaning_over D.Device.meaning self.old) place piece.now result (meaning_over D.Device.meaning self.new) }
-        ensures whole { Whole (meaning_over D.Device.meaning self.old) }
-        ensures still { Whole (meaning_over D.Device.meaning self.new) }
-        ensures sound { sound_over D.Device.meaning D.Device.sound self.new }
         ensures pages { pages_of self.new ≡ after_write (refusal (meaning_over D.Device.meaning self.old) place (length piece.now)) (spent (meaning_over D.Device.meaning self.old).left) (meaning_over D.Device.meaning self.new) (place / 512) (pages_of self.old) }
     {
         if !is_within(self.below.size(), place, piece.len()) {

@@ -2,7 +2,7 @@
 
 ghost use Rattle.std.specs.Prelude.{◌≡◌, ◌<◌, []};
 ghost use Rattle.marks.specs.Marks.{sectors_of, marked, Marking};
-ghost use Rattle.marks.specs.Layers.{marks_of, below_of, meaning_over, sound_over};
+ghost use Rattle.marks.specs.Layers.{marks_of, below_of, meaning_over};
 
 use super::Marked;
 use crate::fault::MarkFault;
@@ -12,11 +12,9 @@ use device::device::Device;
 impl<D: Device> Marked<D> {
     /// A device over another, with no sector marked.
     pub fn new(below: D) -> Marked<D>
-        requires { D.Device.sound below }
         ensures meaning { meaning_over D.Device.meaning result ≡ D.Device.meaning below }
         ensures below { below_of result ≡ below }
         ensures marks { marks_of result ≡ [] }
-        ensures sound { sound_over D.Device.sound result }
     {
         Marked {
             below,
@@ -26,22 +24,18 @@ impl<D: Device> Marked<D> {
 
     /// A device over another, with the marks that a layer had.
     pub fn with_marks(below: D, marks: Marks) -> Marked<D>
-        requires { D.Device.sound below }
         ensures meaning { meaning_over D.Device.meaning result ≡ marked (sectors_of marks) (D.Device.meaning below) }
         ensures below { below_of result ≡ below }
         ensures marks { marks_of result ≡ sectors_of marks }
-        ensures sound { sound_over D.Device.sound result }
     {
         Marked { below, marks }
     }
 
     /// The device below and the marks.
     pub fn into_parts(self) -> (D, Marks)
-        requires { sound_over D.Device.sound self }
         ensures meaning { meaning_over D.Device.meaning self ≡ marked (sectors_of result.1) (D.Device.meaning result.0) }
         ensures below { result.0 ≡ below_of self }
         ensures marks { sectors_of result.1 ≡ marks_of self }
-        ensures sound { D.Device.sound result.0 }
     {
         let Marked { below, marks } = self;
         (below, marks)
@@ -50,10 +44,8 @@ impl<D: Device> Marked<D> {
     /// Marks a sector: refuses 11, then 29 where sixteen others are marked, and changes nothing then.
     /// A sector that is marked already stays so.
     pub fn mark(&mut self, sector: u32) -> Result<(), MarkFault>
-        requires { sound_over D.Device.sound self.old }
         ensures marking { Marking (marks_of self.old) (meaning_over D.Device.meaning self.old) sector result (marks_of self.new) (meaning_over D.Device.meaning self.new) }
         ensures below { below_of self.new ≡ below_of self.old }
-        ensures sound { sound_over D.Device.sound self.new }
     {
         if sector >= self.below.size() {
             return Err(MarkFault::Range);
@@ -63,18 +55,13 @@ impl<D: Device> Marked<D> {
 
     /// Marks a sector of the device.
     fn mark_inside(&mut self, sector: u32) -> Result<(), MarkFault>
-        requires sound { sound_over D.Device.sound self.old }
         requires inside { sector < (meaning_over D.Device.meaning self.old).sectors }
         ensures marking { Marking (marks_of self.old) (meaning_over D.Device.meaning self.old) sector result (marks_of self.new) (meaning_over D.Device.meaning self.new) }
         ensures below { below_of self.new ≡ below_of self.old }
-        ensures sound { sound_over D.Device.sound self.new }
     {
         if self.marks.has(sector) {
             return Ok(());
         }
-        if !self.marks.add(sector) {
-            return Err(MarkFault::Full);
-        }
-        Ok(())
+        self.marks.add(sector)
     }
 }

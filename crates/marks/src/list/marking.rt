@@ -1,9 +1,10 @@
 //! Inner: what the layer does with its marks.
 
-ghost use Rattle.std.specs.Prelude.{◌≡◌, [], ◌∷◌, ◌++◌, length, if◌then◌else◌, nat_lt};
-ghost use Rattle.marks.specs.Marks.{sectors_of, member};
+ghost use Rattle.std.specs.Prelude.{◌≡◌, [], MatchResult};
+ghost use Rattle.marks.specs.Marks.{sectors_of, member, Adds, AddsNone};
 
 use super::Marks;
+use crate::fault::MarkFault;
 
 impl Marks {
     /// No marks.
@@ -20,25 +21,18 @@ impl Marks {
     pub(crate) fn has(&self, sector: u32) -> bool
         ensures { result ≡ member sector (sectors_of self.now) }
     {
-        for i in 0..self.count.min(16) {
-            if self.sectors[i] == sector {
-                return true;
-            }
-        }
-        false
+        self.sectors[..self.count.min(16)].contains(&sector)
     }
 
-    /// Marks one sector more, unless sixteen are marked: then it answers false.
-    pub(crate) fn add(&mut self, sector: u32) -> bool
-        ensures answer { result ≡ nat_lt (length (sectors_of self.old)) 16 }
-        ensures marks { sectors_of self.new ≡ (if result then sectors_of self.old ++ sector ∷ [] else sectors_of self.old) }
+    /// Marks one sector more: refuses 29 where sixteen are marked.
+    pub(crate) fn add(&mut self, sector: u32) -> Result<(), MarkFault>
+        ensures { MatchResult result (λ _. Adds (sectors_of self.old) sector (sectors_of self.new)) (AddsNone (sectors_of self.old) (sectors_of self.new)) }
     {
-        let at = self.count;
-        if at >= 16 {
-            return false;
+        if self.count >= 16 {
+            return Err(MarkFault::Full);
         }
-        self.sectors[at] = sector;
-        self.count = at + 1;
-        true
+        self.sectors[self.count] = sector;
+        self.count += 1;
+        Ok(())
     }
 }

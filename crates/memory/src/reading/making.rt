@@ -11,8 +11,7 @@ use crate::sectors::count_sectors;
 impl<'a> ReadMemory<'a> {
     /// A device of lent bytes: all their whole sectors, each good, with power on.
     pub fn new(bytes: &'a [u8]) -> ReadMemory<'a>
-        ensures meaning { as_device.meaning result ≡ memory bytes.now true endless }
-        ensures sound { as_device.sound result }
+        ensures { as_device.meaning result ≡ memory bytes.now true endless }
     {
         let sectors = count_sectors(bytes);
         ReadMemory { bytes, sectors }

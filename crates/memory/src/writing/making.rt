@@ -14,7 +14,6 @@ impl<'a> WriteMemory<'a> {
         ensures meaning { as_device.meaning result ≡ memory bytes.old true (writes left) }
         ensures tear { result.tear ≡ tear }
         ensures lent { (result.bytes.now ≡ bytes.old) × (result.bytes.ghost_name ≡ bytes.entry.ghost_name) }
-        ensures sound { as_device.sound result }
     {
         let sectors = count_sectors(bytes);
         WriteMemory {
@@ -28,11 +27,9 @@ impl<'a> WriteMemory<'a> {
 
     /// Sets the writes left, and what a torn write of sector 0 stores.
     pub fn set_writes(&mut self, left: Budget, tear: RootTear)
-        requires { as_device.sound self.old }
         ensures meaning { as_device.meaning self.new ≡ with_left (as_device.meaning self.old) (writes left) }
         ensures tear { self.new.tear ≡ tear }
         ensures lent { self.new.bytes ≡ self.old.bytes }
-        ensures sound { as_device.sound self.new }
     {
         self.left = left;
         self.tear = tear;

@@ -1,7 +1,7 @@
 //! Writing to memory.
 
 ghost use Rattle.std.specs.Prelude.{◌≡◌, true, length, None};
-ghost use Rattle.device.specs.Meanings.{Whole, Written, Cut, refusal, spent, stored};
+ghost use Rattle.device.specs.Meanings.{Written, Cut, refusal, spent, stored};
 ghost use Rattle.memory.specs.Memories.{tail};
 ghost use Rattle.memory.specs.Writing.{writes, torn, outcome};
 ghost use Rattle.memory.specs.contracts.writing.WriteMemoryDevice.TheImpl.{ghosts as as_device};
@@ -14,12 +14,9 @@ use faults::device::DeviceFault;
 
 impl<'a> WriteMemory<'a> {
     /// Writes as every device does, and says its one result, a torn write's too.
+    // What stays is said clause by clause, here and in the two halves below, so that a caller cites what it needs.
     pub fn write(&mut self, place: u32, piece: &[u8]) -> Result<(), DeviceFault>
-        requires { as_device.sound self.old }
         ensures written { Written (as_device.meaning self.old) place piece.now result (as_device.meaning self.new) }
-        ensures whole { Whole (as_device.meaning self.old) }
-        ensures still { Whole (as_device.meaning self.new) }
-        ensures sound { as_device.sound self.new }
         ensures answer { result ≡ (outcome self.old.tear (as_device.meaning self.old) place piece.now).answer }
         ensures device { as_device.meaning self.new ≡ (outcome self.old.tear (as_device.meaning self.old) place piece.now).device }
         ensures tear { self.new.tear ≡ self.old.tear }
@@ -46,14 +43,11 @@ impl<'a> WriteMemory<'a> {
 
     /// Stores a piece, and has so many writes left.
     fn store(&mut self, place: u32, piece: &[u8], left: Budget)
-        requires sound { as_device.sound self.old }
         requires free { refusal (as_device.meaning self.old) place (length piece.now) ≡ None }
         ensures meaning { as_device.meaning self.new ≡ stored (as_device.meaning self.old) place piece.now (writes left) }
         ensures tear { self.new.tear ≡ self.old.tear }
         ensures tail { tail self.new.bytes.now ≡ tail self.old.bytes.now }
         ensures lent { self.new.bytes.ghost_name ≡ self.old.bytes.ghost_name }
-        ensures whole { Whole (as_device.meaning self.new) }
-        ensures sound { as_device.sound self.new }
     {
         know_bytes(piece);
         lay_over(self.bytes, place as usize, piece);
@@ -62,19 +56,16 @@ impl<'a> WriteMemory<'a> {
 
     /// Stores the front of a piece as power goes.
     fn tear(&mut self, place: u32, piece: &[u8])
-        requires sound { as_device.sound self.old }
         requires free { refusal (as_device.meaning self.old) place (length piece.now) ≡ None }
         ensures meaning { as_device.meaning self.new ≡ torn self.old.tear (as_device.meaning self.old) place piece.now }
         ensures cut { Cut (as_device.meaning self.old) place piece.now (as_device.meaning self.new) }
         ensures tear { self.new.tear ≡ self.old.tear }
         ensures tail { tail self.new.bytes.now ≡ tail self.old.bytes.now }
         ensures lent { self.new.bytes.ghost_name ≡ self.old.bytes.ghost_name }
-        ensures whole { Whole (as_device.meaning self.new) }
-        ensures sound { as_device.sound self.new }
     {
         know_bytes(piece);
         let n = self.tear.stored_of(place, piece.len());
-        lay_over(self.bytes, place as usize, &piece[0..n]);
+        lay_over(self.bytes, place as usize, &piece[..n]);
         self.power = false;
     }
 }

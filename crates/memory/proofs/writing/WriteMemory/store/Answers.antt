@@ -1,20 +1,17 @@
-use Rattle.std.proofs.Common.{◌∙◌, rules}
+use Rattle.std.proofs.Common.{◌∙◌}
 use Rattle.memory.specs.Writing.{writes}
-use Rattle.memory.proofs.Stores.{LaidOver, laid_over}
+use Rattle.memory.proofs.Stores.{laid_over}
 use Rattle.memory.proofs.writing.WriteMemory.store.Goals as goal
 
-after :
-    (c : goal.After-left-1)
-    → LaidOver c.args.self.now.bytes.now c.lay_over.new.to c.args.piece.now c.args.place c.args.self.now.power (writes c.args.self.now.left) (writes c.args.left)
-after c = laid_over _ _ _ _ _ _ _ c.requires.sound.1 c.requires.free c.know_bytes.ensures c.lay_over.ensures
+pub invariant_of-self : goal.invariant_of-self
+invariant_of-self c =
+    let a = laid_over _ _ _ _ _ _ _ c.args.self.now.whole c.requires.free c.know_bytes.ensures c.lay_over.ensures in
+    record { count = c.args.self.now.count ∙ a.sectors; whole = a.whole }
 
-pub returns : goal.returns
-returns c =
-    record {
-      meaning = (after c).meaning;
-      tear = search rules;
-      tail = (after c).tail;
-      lent = search rules;
-      whole = (after c).whole;
-      sound = (c.requires.sound.0 ∙ (after c).sectors, (after c).whole);
-    }
+pub returns-clause-meaning : goal.returns-clause-meaning
+returns-clause-meaning c =
+    (laid_over _ _ _ _ _ _ _ c.args.self.now.whole c.requires.free c.know_bytes.ensures c.lay_over.ensures).meaning
+
+pub returns-clause-tail : goal.returns-clause-tail
+returns-clause-tail c =
+    (laid_over _ _ _ _ _ _ (writes c.args.left) c.args.self.now.whole c.requires.free c.know_bytes.ensures c.lay_over.ensures).tail
