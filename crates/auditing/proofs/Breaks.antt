@@ -115,11 +115,3 @@ module _ (f : List ℕ) (rs : List Record) (reads : Rule3 f rs) (placed : AllByR
           broken = λ rule. absurd (omega (arith, o.4, rule y o.1 o.0 hy (sym o.5) o.6 o.3 o.2));
         })
         swept.from
-
--- the lowest record that overtakes another lies in the file
-pub lowest_fits : (f : List ℕ) (p end low : ℕ) → Swept f p end low → low < end → low + 8 + word_at f low ≤ length f
-lowest_fits f p end low swept l =
-    ⊎_elim
-    (λ (a : low ≡ end). absurd (omega arith))
-    (λ a. a.2.7)
-    swept.from

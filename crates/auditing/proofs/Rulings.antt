@@ -4,20 +4,18 @@ use Rattle.std.specs.List.{AllByRecursion}
 use Rattle.std.proofs.lemmas.List.Sums.{sum_by-cons, count_by-le-length}
 use Rattle.std.proofs.lemmas.Bool.{lt-ltb, le-ltb, cases_lt}
 use Rattle.faults.specs.declared.file.FileFault.{FileFault}
-use Rattle.faults.specs.declared.file.FileFault.TheVariants as fault
-use Rattle.faults.specs.Reports.{report}
-use Rattle.cdb.specs.Records.{Record, Records, items, table_of}
+use Rattle.cdb.specs.Records.{Record, Records, items}
 use Rattle.cdb.specs.Tables.{Slot, blank}
 use Rattle.cdb.specs.Files.{position, slot_count, slots_at, ends}
 use Rattle.cdb.specs.Rules.{First, Each, Rule1, Rule2, Rule3, Rule4, Rule5, Rule6, Clear, Rule7, Lawful}
-use Rattle.cdb.specs.Verdicts.{refused, slots_below, Judged, broken_4, broken_5, broken_6, broken_7, broken_8, keeps_all}
+use Rattle.cdb.specs.Verdicts.{slots_below, Judged, broken_4, broken_5, broken_6, broken_7, broken_8, keeps_all}
 use Rattle.cdb.proofs.Placement.{length_slots_at}
 use Rattle.cdb.proofs.FileLookup.{one_reading}
 use Rattle.cdb.proofs.Slots.{slot_at}
-use Rattle.scanning.specs.declared.records.Spot.{Spot}
-use Rattle.scanning.specs.Searches.{item_at}
+use Rattle.scanning.specs.Headers.{Header}
 use Rattle.scanning.specs.Sweeps.{CountTo, Placed, Lost}
-use Rattle.auditing.specs.Tables.{filled_in, Counted, Room, ClearAt, TableClear, Ruled}
+use Rattle.auditing.specs.Tables.{filled_in, Counted, Room, ClearAt, TableClear, Unruled, miscounted, crowded, stained, Ruled}
+use Rattle.auditing.specs.Orders.{Ordered}
 use Rattle.auditing.specs.Audits.{verdict}
 use Rattle.scanning.proofs.Meets.{probes_placed}
 use Rattle.auditing.proofs.Breaks.{swept_passes, swept_breaks}
@@ -114,13 +112,17 @@ table_to f t h i l = clear_to f t i l (h i l)
 table_from : (f : List ℕ) (t : ℕ) → Rule7 f t → TableClear f t
 table_from f t h i l = clear_from f t i l (h i l)
 
-module _ (f : List ℕ) (long : Rule1 f) (H : Each (Rule2 f)) (end : ℕ) (here : end ≡ position f 0) where
-  pub lost_judged : (s : Spot) → Lost f end s → Judged f (refused (report 4 s.table s.place))
-  lost_judged s h =
-      let x = h.2.0 in
+module _ (f : List ℕ) (long : Rule1 f) (end : ℕ) (header : Header f end) where
+  H : Each (Rule2 f)
+  H = header.entries
+
+  here : end ≡ position f 0
+  here = header.first
+
+  pub lost_judged : (y : FileFault) → Lost f end y → Judged f (verdict (Err y))
+  lost_judged y h =
       let r3 : Rule3 f h.0 = subst (λ (e : ℕ). Records f 2048 e h.0) here h.1 in
-      subst (λ (t : ℕ). Judged f (refused (report 4 t s.place))) (sym h.2.2)
-      (subst (λ (p : ℕ). Judged f (refused (report 4 (table_of x.key) p))) (sym h.2.3) (broken_4 h.0 long H r3 h.2.1))
+      subst (λ (z : FileFault). Judged f (verdict (Err z))) (sym h.2.2) (broken_4 h.0 long H r3 h.2.1)
 
   module _ (counts : List ℕ) (q low : ℕ) (placed : Placed f end q counts low) where
     rs : List Record
@@ -142,30 +144,21 @@ module _ (f : List ℕ) (long : Rule1 f) (H : Each (Rule2 f)) (end : ℕ) (here 
     unfolding rs
     rule5_back t l h = h ∙ sym (placed.met.3 t l)
 
-    at_place : (n t p u : ℕ) → p ≡ u → Judged f (refused (report n t u)) → Judged f (refused (report n t p))
-    at_place n t p u e h = subst (λ (k : ℕ). Judged f (refused (report n t k))) (sym e) h
+    told : (x y : FileFault) → x ≡ y → Judged f (verdict (Err y)) → Judged f (verdict (Err x))
+    told x y e h = subst (λ (z : FileFault). Judged f (verdict (Err z))) (sym e) h
 
-    pub tables_refuse : (x : FileFault) → Ruled f counts (Err x) → Judged f (verdict (Err x))
-    tables_refuse (fault.Count t p) h =
-        at_place 5 t p (position f t) h.place (broken_5 rs long H reads found (first_map 256 t (Counted f counts) (Rule5 f rs) rule5 rule5_back h.table))
-    tables_refuse (fault.Full t p) h =
-        at_place 6 t p (position f t) h.1.place
-        (broken_6 rs long H reads found (λ i l. rule5 i l (h.0 i l))
-        (first_map 256 t (Room f counts) (Rule6 f) (λ i l. room_rule f counts i (h.0 i l)) (λ i l. rule_room f counts i (h.0 i l)) h.1.table))
-    tables_refuse (fault.Stained t p) h =
-        at_place 7 t p (position f t + 8 * h.2.index) h.2.place
-        (broken_7 rs long H reads found (λ i l. rule5 i l (h.0 i l)) (λ i l. room_rule f counts i (h.0 i l) (h.1 i l))
-        (first_map 256 t (TableClear f) (Rule7 f) (λ i l. table_to f i) (λ i l. table_from f i) h.2.table)
-        (first_map (slot_count f t) h.2.index (ClearAt f (position f t)) (Clear f t) (λ i l. clear_to f t i l) (λ i l. clear_from f t i l) h.2.slot))
-    tables_refuse (fault.Device d) h = absurd h
-    tables_refuse (fault.Short n) h = absurd h
-    tables_refuse (fault.Entry t) h = absurd h
-    tables_refuse (fault.Record p) h = absurd h
-    tables_refuse (fault.Lost t p) h = absurd h
-    tables_refuse (fault.Order t p) h = absurd h
-    tables_refuse (fault.Past t p) h = absurd h
-    tables_refuse fault.Range h = absurd h
-    tables_refuse fault.OtherKey h = absurd h
+    pub tables_refuse : (x : FileFault) → Unruled f counts x → Judged f (verdict (Err x))
+    tables_refuse x (miscounted h) =
+        told x _ h.told (broken_5 rs long H reads found (first_map 256 h.table (Counted f counts) (Rule5 f rs) rule5 rule5_back h.first))
+    tables_refuse x (crowded c h) =
+        told x _ h.told
+        (broken_6 rs long H reads found (λ i l. rule5 i l (c i l))
+        (first_map 256 h.table (Room f counts) (Rule6 f) (λ i l. room_rule f counts i (c i l)) (λ i l. rule_room f counts i (c i l)) h.first))
+    tables_refuse x (stained c r h) =
+        told x _ h.told
+        (broken_7 rs long H reads found (λ i l. rule5 i l (c i l)) (λ i l. room_rule f counts i (c i l) (r i l))
+        (first_map 256 h.table (TableClear f) (Rule7 f) (λ i l. table_to f i) (λ i l. table_from f i) h.first)
+        (first_map (slot_count f h.table) h.index (ClearAt f (position f h.table)) (Clear f h.table) (λ i l. clear_to f h.table i l) (λ i l. clear_from f h.table i l) h.slot))
 
     module _ (ruled : Ruled f counts (Ok tt)) where
       all5 : Each (Rule5 f rs)
@@ -180,10 +173,8 @@ module _ (f : List ℕ) (long : Rule1 f) (H : Each (Rule2 f)) (end : ℕ) (here 
       inside : position f 0 ≤ length f
       inside = ((H 0 (omega arith)).first refl).1
 
-      pub order_refuse : (t : ℕ) → low < end → t ≡ table_of (item_at f low).key → Judged f (refused (report 8 t low))
-      order_refuse t l e =
-          subst (λ (u : ℕ). Judged f (refused (report 8 u low))) (sym e)
-          (broken_8 rs long H reads found all5 all6 all7 (swept_breaks f rs reads found all5 inside end low here placed.swept l))
+      pub order_refuse : (y : FileFault) → Ordered f end low (Err y) → Judged f (verdict (Err y))
+      order_refuse y h = told y _ h.1 (broken_8 rs long H reads found all5 all6 all7 (swept_breaks f rs reads found all5 inside end low here placed.swept h.0))
 
       pub all_pass : (n s : ℕ) → CountTo f end n → s ≡ (length f - end) / 8 → end ≤ low → Judged f (verdict (Ok (record { records = n; slots = s; probes = q })))
       unfolding rs

@@ -1,3 +1,4 @@
 pub mod Tables
 pub mod Orders
 pub mod Audits
+pub mod Texts

@@ -6,7 +6,6 @@ use Rattle.faults.specs.declared.file.FileFault.TheVariants as fault
 use Rattle.cdb.specs.Tables.{Slot}
 use Rattle.cdb.specs.Files.{position, slot_count, slots_at}
 use Rattle.cdb.specs.Rules.{First, Each}
-use Rattle.scanning.specs.declared.records.Spot.{Spot}
 
 -- how many of len slots at pos are filled
 abbrev pub filled_in : List ℕ → ℕ → ℕ → ℕ
@@ -27,33 +26,27 @@ ClearAt f pos i = word_at f (pos + 8 * i + 4) ≡ 0 → word_at f (pos + 8 * i) 
 abbrev pub TableClear : List ℕ → ℕ → Type 0
 TableClear f t = (i : ℕ) → i < slot_count f t → ClearAt f (position f t) i
 
--- the first slot that is not clear, by table, then slot
-pub record FirstSlot (f : List ℕ) (r : Spot) : Type 0 where
-  pub table : First 256 (TableClear f) r.table
+-- the first table that does not keep a rule is refused, at its position
+pub record RefusesTable (f : List ℕ) (Keeps : ℕ → Type 0) (refusal : ℕ → ℕ → FileFault) (x : FileFault) : Type 0 where
+  pub table : ℕ
+  pub first : First 256 Keeps table
+  pub told : x ≡ refusal table (position f table)
+
+-- the first slot that is not clear is refused, by table, then slot
+pub record RefusesSlot (f : List ℕ) (x : FileFault) : Type 0 where
+  pub table : ℕ
+  pub first : First 256 (TableClear f) table
   pub index : ℕ
-  pub slot : First (slot_count f r.table) (ClearAt f (position f r.table)) index
-  pub place : r.place ≡ position f r.table + 8 * index
+  pub slot : First (slot_count f table) (ClearAt f (position f table)) index
+  pub told : x ≡ fault.Stained table (position f table + 8 * index)
 
--- the first table that breaks a rule, and its position
-pub record FirstTable (f : List ℕ) (Keeps : ℕ → Type 0) (r : Spot) : Type 0 where
-  pub table : First 256 Keeps r.table
-  pub place : r.place ≡ position f r.table
-
-abbrev pub spot : ℕ → ℕ → Spot
-spot t p = record { table = t; place = p }
+-- what the first of rules 5 to 7 that is broken refuses
+pub data Unruled (f counts : List ℕ) (x : FileFault) : Type 0 where
+  miscounted : RefusesTable f (Counted f counts) fault.Count x → Unruled f counts x
+  crowded : Each (Counted f counts) → RefusesTable f (Room f counts) fault.Full x → Unruled f counts x
+  stained : Each (Counted f counts) → Each (Room f counts) → RefusesSlot f x → Unruled f counts x
 
 -- rules 5 to 7 in turn
 abbrev pub Ruled : List ℕ → List ℕ → Result (Unit {0}) FileFault → Type 0
-Ruled f counts (Ok x) = Each (Counted f counts) × Each (Room f counts) × Each (TableClear f)
-Ruled f counts (Err (fault.Count t p)) = FirstTable f (Counted f counts) (spot t p)
-Ruled f counts (Err (fault.Full t p)) = Each (Counted f counts) × FirstTable f (Room f counts) (spot t p)
-Ruled f counts (Err (fault.Stained t p)) = Each (Counted f counts) × Each (Room f counts) × FirstSlot f (spot t p)
-Ruled f counts (Err (fault.Device d)) = ⊥
-Ruled f counts (Err (fault.Short n)) = ⊥
-Ruled f counts (Err (fault.Entry t)) = ⊥
-Ruled f counts (Err (fault.Record p)) = ⊥
-Ruled f counts (Err (fault.Lost t p)) = ⊥
-Ruled f counts (Err (fault.Order t p)) = ⊥
-Ruled f counts (Err (fault.Past t p)) = ⊥
-Ruled f counts (Err fault.Range) = ⊥
-Ruled f counts (Err fault.OtherKey) = ⊥
+Ruled f counts (Ok u) = Each (Counted f counts) × Each (Room f counts) × Each (TableClear f)
+Ruled f counts (Err x) = Unruled f counts x

@@ -1,91 +1,79 @@
 //! Inner: rules 5 to 7, the tables.
 
-ghost use Rattle.std.specs.Prelude.{◌≡◌, ℕ, ◌+◌, ◌-◌, ◌*◌, ◌/◌, ◌%◌, ◌^◌, ◌<◌, ◌≤◌, length, MatchOption};
-ghost use Rattle.cdb.specs.Files.{ends};
+ghost use Rattle.std.specs.Prelude.{◌≡◌, ℕ, ◌+◌, ◌-◌, ◌*◌, ◌/◌, ◌%◌, ◌^◌, ◌<◌, ◌≤◌, length, MatchOption, MatchResult};
 ghost use Rattle.cdb.specs.Rules.{First, Each};
-ghost use Rattle.file.specs.Extents.{Ready, file};
-ghost use Rattle.auditing.specs.Tables.{filled_in, Counted, Room, ClearAt, TableClear, FirstSlot, FirstTable, Ruled};
+ghost use Rattle.faults.specs.declared.file.FileFault.TheVariants.{Count, Full};
+ghost use Rattle.file.specs.ReadableFiles.{contents, SameFile};
+ghost use Rattle.scanning.specs.Headers.{TablesInside};
+ghost use Rattle.auditing.specs.Tables.{filled_in, Counted, Room, ClearAt, TableClear, RefusesTable, RefusesSlot, Ruled};
 
 use device::device::Device;
 use faults::file::FileFault;
-use file::extents::Extent;
-use file::plain::words_in;
-use scanning::records::Spot;
+use file::readable_file::ReadableFile;
 
 /// How many of the slots of a table are filled.
-fn count_filled<D: Device>(d: &mut D, e: Extent, pos: u32, len: u32) -> u32
-    requires sound { D.Device.sound d.old }
-    requires ready { Ready (D.Device.meaning d.old) e }
-    requires within { pos + 8 * len ≤ e.len }
-    ensures answer { result ≡ filled_in (file (D.Device.meaning d.old) e) pos len }
-    ensures same { D.Device.meaning d.new ≡ D.Device.meaning d.old }
-    ensures sound { D.Device.sound d.new }
+fn count_filled<D: Device>(file: &mut ReadableFile<'_, D>, pos: u32, len: u32) -> u32
+    requires { pos + 8 * len ≤ length (contents file.old) }
+    ensures answer { result ≡ filled_in (contents file.old) pos len }
+    ensures same { SameFile file.old file.new }
 {
-    let mut n = 0;
+    // A loop: each slot is read through the lent file, which the closure of a filter would hold.
+    let mut filled = 0;
     for i in 0..len {
-        let slot = words_in(d, e, pos + 8 * i);
-        if slot.second > 0 {
-            n += 1;
+        if file.words(pos + 8 * i).second > 0 {
+            filled += 1;
         }
     }
-    n
+    filled
 }
 
-/// The first table whose filled slots are not as many as its records.
-fn miscounted<D: Device>(d: &mut D, e: Extent, counts: &[u32]) -> Option<Spot>
-    requires sound { D.Device.sound d.old }
-    requires ready { Ready (D.Device.meaning d.old) e }
-    requires tables { (2048 ≤ e.len) × (((t : ℕ) → t < 256 → ends (file (D.Device.meaning d.old) e) t ≤ e.len)) }
-    requires counts { length counts.now ≡ 256 }
-    ensures answer { MatchOption result ((t : ℕ) → t < 256 → Counted (file (D.Device.meaning d.old) e) counts.now t) (λ x. FirstTable (file (D.Device.meaning d.old) e) (Counted (file (D.Device.meaning d.old) e) counts.now) x) }
-    ensures same { D.Device.meaning d.new ≡ D.Device.meaning d.old }
-    ensures sound { D.Device.sound d.new }
+/// Refuses the first table whose filled slots are not as many as its records.
+fn check_counts<D: Device>(
+    file: &mut ReadableFile<'_, D>,
+    counts: &[u32; 256],
+) -> Result<(), FileFault>
+    requires { TablesInside (contents file.old) }
+    ensures answer { MatchResult result (λ _. Each (Counted (contents file.old) counts.now)) (λ x. RefusesTable (contents file.old) (Counted (contents file.old) counts.now) Count x) }
+    ensures same { SameFile file.old file.new }
 {
-    for t in 0..256u32 {
-        let entry = words_in(d, e, 8 * t);
-        if count_filled(d, e, entry.first, entry.second) != counts[t as usize] {
-            return Some(Spot {
-                table: t,
-                place: entry.first,
-            });
+    for (t, &count) in counts.iter().enumerate() {
+        let table = t as u32;
+        let entry = file.words(8 * table);
+        if count_filled(file, entry.first, entry.second) != count {
+            return Err(FileFault::Count(table, entry.first));
         }
     }
-    None
+    Ok(())
 }
 
-/// The first table that has slots, and no more than records.
-fn full<D: Device>(d: &mut D, e: Extent, counts: &[u32]) -> Option<Spot>
-    requires sound { D.Device.sound d.old }
-    requires ready { Ready (D.Device.meaning d.old) e }
-    requires tables { 2048 ≤ e.len }
-    requires counts { length counts.now ≡ 256 }
-    ensures answer { MatchOption result ((t : ℕ) → t < 256 → Room (file (D.Device.meaning d.old) e) counts.now t) (λ x. FirstTable (file (D.Device.meaning d.old) e) (Room (file (D.Device.meaning d.old) e) counts.now) x) }
-    ensures same { D.Device.meaning d.new ≡ D.Device.meaning d.old }
-    ensures sound { D.Device.sound d.new }
+/// Refuses the first table that has slots, and no more than records.
+// One function with the test as a closure would be no plainer: it would have to ask of the closure what these two clauses say.
+fn check_room<D: Device>(
+    file: &mut ReadableFile<'_, D>,
+    counts: &[u32; 256],
+) -> Result<(), FileFault>
+    requires { TablesInside (contents file.old) }
+    ensures answer { MatchResult result (λ _. Each (Room (contents file.old) counts.now)) (λ x. RefusesTable (contents file.old) (Room (contents file.old) counts.now) Full x) }
+    ensures same { SameFile file.old file.new }
 {
-    for t in 0..256u32 {
-        let entry = words_in(d, e, 8 * t);
-        if entry.second > 0 && counts[t as usize] >= entry.second {
-            return Some(Spot {
-                table: t,
-                place: entry.first,
-            });
+    for (t, &count) in counts.iter().enumerate() {
+        let table = t as u32;
+        let entry = file.words(8 * table);
+        if entry.second > 0 && count >= entry.second {
+            return Err(FileFault::Full(table, entry.first));
         }
     }
-    None
+    Ok(())
 }
 
 /// The first slot of a table that is empty with another hash than 0.
-fn stained_slot<D: Device>(d: &mut D, e: Extent, pos: u32, len: u32) -> Option<u32>
-    requires sound { D.Device.sound d.old }
-    requires ready { Ready (D.Device.meaning d.old) e }
-    requires within { pos + 8 * len ≤ e.len }
-    ensures answer { MatchOption result ((i : ℕ) → i < len → ClearAt (file (D.Device.meaning d.old) e) pos i) (λ i. First len (ClearAt (file (D.Device.meaning d.old) e) pos) i) }
-    ensures same { D.Device.meaning d.new ≡ D.Device.meaning d.old }
-    ensures sound { D.Device.sound d.new }
+fn stained_slot<D: Device>(file: &mut ReadableFile<'_, D>, pos: u32, len: u32) -> Option<u32>
+    requires { pos + 8 * len ≤ length (contents file.old) }
+    ensures answer { MatchOption result ((i : ℕ) → i < len → ClearAt (contents file.old) pos i) (λ i. First len (ClearAt (contents file.old) pos) i) }
+    ensures same { SameFile file.old file.new }
 {
     for i in 0..len {
-        let slot = words_in(d, e, pos + 8 * i);
+        let slot = file.words(pos + 8 * i);
         if slot.second == 0 && slot.first != 0 {
             return Some(i);
         }
@@ -93,45 +81,31 @@ fn stained_slot<D: Device>(d: &mut D, e: Extent, pos: u32, len: u32) -> Option<u
     None
 }
 
-/// The first such slot of the file, by table and place.
-fn stained<D: Device>(d: &mut D, e: Extent) -> Option<Spot>
-    requires sound { D.Device.sound d.old }
-    requires ready { Ready (D.Device.meaning d.old) e }
-    requires tables { (2048 ≤ e.len) × (((t : ℕ) → t < 256 → ends (file (D.Device.meaning d.old) e) t ≤ e.len)) }
-    ensures answer { MatchOption result ((t : ℕ) → t < 256 → TableClear (file (D.Device.meaning d.old) e) t) (λ x. FirstSlot (file (D.Device.meaning d.old) e) x) }
-    ensures same { D.Device.meaning d.new ≡ D.Device.meaning d.old }
-    ensures sound { D.Device.sound d.new }
+/// Refuses the first such slot of the file, by table and place.
+fn check_clear<D: Device>(file: &mut ReadableFile<'_, D>) -> Result<(), FileFault>
+    requires { TablesInside (contents file.old) }
+    ensures answer { MatchResult result (λ _. Each (TableClear (contents file.old))) (λ x. RefusesSlot (contents file.old) x) }
+    ensures same { SameFile file.old file.new }
 {
     for t in 0..256u32 {
-        let entry = words_in(d, e, 8 * t);
-        if let Some(i) = stained_slot(d, e, entry.first, entry.second) {
-            return Some(Spot {
-                table: t,
-                place: entry.first + 8 * i,
-            });
+        let entry = file.words(8 * t);
+        if let Some(i) = stained_slot(file, entry.first, entry.second) {
+            return Err(FileFault::Stained(t, entry.first + 8 * i));
         }
     }
-    None
+    Ok(())
 }
 
 /// Rules 5 to 7.
-pub(crate) fn check_tables<D: Device>(d: &mut D, e: Extent, counts: &[u32]) -> Result<(), FileFault>
-    requires sound { D.Device.sound d.old }
-    requires ready { Ready (D.Device.meaning d.old) e }
-    requires tables { (2048 ≤ e.len) × (((t : ℕ) → t < 256 → ends (file (D.Device.meaning d.old) e) t ≤ e.len)) }
-    requires counts { length counts.now ≡ 256 }
-    ensures answer { Ruled (file (D.Device.meaning d.old) e) counts.now result }
-    ensures same { D.Device.meaning d.new ≡ D.Device.meaning d.old }
-    ensures sound { D.Device.sound d.new }
+pub(crate) fn check_tables<D: Device>(
+    file: &mut ReadableFile<'_, D>,
+    counts: &[u32; 256],
+) -> Result<(), FileFault>
+    requires { TablesInside (contents file.old) }
+    ensures answer { Ruled (contents file.old) counts.now result }
+    ensures same { SameFile file.old file.new }
 {
-    if let Some(spot) = miscounted(d, e, counts) {
-        return Err(FileFault::Count(spot.table, spot.place));
-    }
-    if let Some(spot) = full(d, e, counts) {
-        return Err(FileFault::Full(spot.table, spot.place));
-    }
-    if let Some(spot) = stained(d, e) {
-        return Err(FileFault::Stained(spot.table, spot.place));
-    }
-    Ok(())
+    check_counts(file, counts)?;
+    check_room(file, counts)?;
+    check_clear(file)
 }

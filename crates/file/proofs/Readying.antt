@@ -4,22 +4,18 @@ use borrow.Rule.Slice.PartMut.{post_of}
 use Rattle.std.proofs.lemmas.List.{length-take-le, length-drop, length-append}
 use Rattle.std.proofs.lemmas.Bool.{cases_eq}
 use Rattle.byte_lists.specs.Bytes.{part}
-use Rattle.byte_lists.proofs.Parts.{part_in, part_long}
+use Rattle.byte_lists.proofs.Parts.{part_in}
 use Rattle.faults.specs.declared.device.DeviceFault.{DeviceFault}
 use Rattle.device.specs.Meanings.{Meaning, Whole, refuses}
 use Rattle.file.specs.declared.extents.Extent.{Extent}
-use Rattle.file.specs.Ranges.{Reads, AllRead, FirstBad, SectorsRead, FirstSector, Fetched}
-use Rattle.file.specs.Extents.{file, Readable, Ready}
+use Rattle.file.specs.Ranges.{Reads, FirstBad, FirstSector, Fetched}
+use Rattle.file.specs.Extents.{file, Readable}
 use Rattle.file.proofs.Turns.{holds_all}
 
 pub some_none : (o : Option DeviceFault) (f : DeviceFault) → o ≡ None → o ≡ Some f → ⊥
 some_none o f a b = let z : ◌≡◌ {A = ℕ} 0 1 = cc in omega arith
 
--- the sectors that a range touches can be read: so can its bytes
-pub sectors_read : (m : Meaning) (p n : ℕ) → 0 < n → SectorsRead m (p / 512) ((p + n - 1) / 512 + 1) → AllRead m p n
-sectors_read m p n some h j l = h ((p + j) / 512) (omega arith) (omega arith)
-
--- the first of them that cannot
+-- the first sector that a range touches and that cannot be read: so its first byte there
 pub sectors_bad : (m : Meaning) (p n : ℕ) (f : DeviceFault) → 0 < n → FirstSector m (p / 512) ((p + n - 1) / 512 + 1) f → FirstBad m p n f
 sectors_bad m p n f some h =
     let s = h.0 in
@@ -33,9 +29,6 @@ sectors_bad m p n f some h =
     let z : (p + (512 * s - p)) / 512 ≡ s = omega (arith, ne) in
     record { k = 512 * s - p; within = omega arith; before = λ j l. h.3 ((p + j) / 512) (omega arith) (omega arith); refused = ap (refuses m) z ∙ h.4 })
     (cases_eq s (p / 512))
-
-pub ready_from : (m : Meaning) (e : Extent) → Whole m → Readable m e → Ready m e
-ready_from m e w r = record { readable = r; long = part_long m.bytes e.start e.len (omega (arith, w.long, r.on)) }
 
 -- a part of a readable file is read
 pub part_read : (m : Meaning) (e : Extent) (p : ℕ) (old new : List ℕ) (r : Result (Unit {0}) DeviceFault) → Whole m → Readable m e → p + length old ≤ e.len
@@ -53,6 +46,3 @@ buffer_long n k new xs l h e =
     let z = length-take-le (k - 0) xs (omega arith) in
     let v = length-drop (k - 0) xs in
     length-append new (drop (k - 0) xs) ∙ omega arith
-
-pub front_long : (n k : ℕ) (xs : List ℕ) → length xs ≡ n → k ≤ n → length (take (k - 0) xs) ≡ k
-front_long n k xs l h = length-take-le (k - 0) xs (omega arith) ∙ omega arith

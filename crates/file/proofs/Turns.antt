@@ -6,6 +6,7 @@ use Rattle.std.proofs.lemmas.List.{places, get_or-drop, length-take, length-appe
 use Rattle.std.proofs.lemmas.Slice.{overwrites}
 use Rattle.std.proofs.lemmas.Bool.{cases_lt}
 use Rattle.faults.specs.declared.device.DeviceFault.{DeviceFault}
+use Rattle.device.specs.declared.pieces.Piece.{Piece}
 use Rattle.device.specs.Meanings.{Meaning, refuses, refusal, within, answer, filled}
 use Rattle.byte_lists.specs.Bytes.{part}
 use Rattle.byte_lists.proofs.Parts.{get_d_part}
@@ -41,71 +42,74 @@ read_err m p n f old new i a e =
 pub piece_readable : (m : Meaning) (q count j : ℕ) → q % 512 + count ≤ 512 → j < count → Reads m q → Reads m (q + j)
 piece_readable m q count j h l r = let e : (q + j) / 512 ≡ q / 512 = omega arith in ap (refuses m) e ∙ r
 
-pub readable_more : (m : Meaning) (p k count : ℕ) → (p + k) % 512 + count ≤ 512 → AllRead m p k → Reads m (p + k) → AllRead m p (k + count)
-readable_more m p k count h a r = λ j l.
+pub readable_more : (m : Meaning) (p : ℕ) (w : Piece) → w.place ≡ p + w.from → AllRead m p w.from → Reads m w.place → AllRead m p w.to
+readable_more m p w at a r = λ j l.
     ⊎_elim
-    (λ (b : j < k). a j b)
-    (λ (b : k ≤ j).
-    let e : p + k + (j - k) ≡ p + j = omega arith in
-    subst (Reads m) e (piece_readable m (p + k) count (j - k) h (omega arith) r))
-    (cases_lt j k)
+    (λ (b : j < w.from). a j b)
+    (λ (b : w.from ≤ j).
+    let e : w.place + (j - w.from) ≡ p + j = omega arith in
+    subst (Reads m) e (piece_readable m w.place (w.to - w.from) (j - w.from) w.inside (omega arith) r))
+    (cases_lt j w.from)
+
+-- the bytes of a buffer that a piece has
+abbrev pub bytes_of : Piece → List ℕ → List ℕ
+bytes_of w buf = take (w.to - w.from) (drop w.from buf)
+
+-- the buffer after a read into them
+abbrev pub buffer_with : Piece → List ℕ → List ℕ → List ℕ
+buffer_with w buf piece = put_mid w.from (w.to - w.from) buf piece
 
 pub holds_more :
-    (m : Meaning) (p k count : ℕ) (old buf piece : List ℕ) → k + count ≤ length old → length piece ≡ count → Holds m p k old buf
-    → piece ≡ part m.bytes (p + k) count → Holds m p (k + count) old (put_mid k ((k + count) - k) buf piece)
-holds_more m p k count old buf piece l len h e =
+    (m : Meaning) (p : ℕ) (w : Piece) (old buf piece : List ℕ) → w.place ≡ p + w.from → w.to ≤ length old → length piece ≡ w.to - w.from → Holds m p w.from old buf
+    → piece ≡ part m.bytes w.place (w.to - w.from) → Holds m p w.to old (buffer_with w buf piece)
+holds_more m p w old buf piece at l len h e =
     let lb : length buf ≡ length old = h.long in
-    let n : (k + count) - k ≡ count = omega arith in
-    rw n (record {
+    let new : List ℕ = buffer_with w buf piece in record {
       long = search (rules, overwrites);
       front = λ j b.
           ⊎_elim
-          (λ (c : j < k). let x : get_or (put_mid k count buf piece) j 0 ≡ get_or buf j 0 = search (rules, places) in x ∙ h.front j c)
-          (λ (c : k ≤ j).
-          let x : get_or (put_mid k count buf piece) j 0 ≡ get_or piece (j - k) 0 = search (rules, places) in
-          let z : p + k + (j - k) ≡ p + j = omega arith in
-          x ∙ ap (λ (ys : List ℕ). get_or ys (j - k) 0) e ∙ get_d_part m.bytes (p + k) count (j - k) (omega arith) ∙ ap (λ (i : ℕ). get_or m.bytes i 0) z)
-          (cases_lt j k);
-      rest = λ j b. let x : get_or (put_mid k count buf piece) j 0 ≡ get_or buf j 0 = search (rules, places) in x ∙ h.rest j (omega arith);
-    })
+          (λ (c : j < w.from). let x : get_or new j 0 ≡ get_or buf j 0 = search (rules, places) in x ∙ h.front j c)
+          (λ (c : w.from ≤ j).
+          let x : get_or new j 0 ≡ get_or piece (j - w.from) 0 = search (rules, places) in
+          let z : w.place + (j - w.from) ≡ p + j = omega arith in
+          x ∙ ap (λ (ys : List ℕ). get_or ys (j - w.from) 0) e ∙ get_d_part m.bytes w.place (w.to - w.from) (j - w.from) (omega arith) ∙ ap (λ (i : ℕ). get_or m.bytes i 0) z)
+          (cases_lt j w.from);
+      rest = λ j b. let x : get_or new j 0 ≡ get_or buf j 0 = search (rules, places) in x ∙ h.rest j (omega arith);
+    }
 
 -- a read that changed nothing
-pub holds_still :
-    (m : Meaning) (p k count : ℕ) (old buf piece : List ℕ) → k + count ≤ length old → Holds m p k old buf
-    → piece ≡ take ((k + count) - k) (drop k buf) → Holds m p k old (put_mid k ((k + count) - k) buf piece)
-holds_still m p k count old buf piece l h e =
-    let lb : length buf ≡ length old = h.long in
-    let n : (k + count) - k ≡ count = omega arith in
-    let s : put_mid k ((k + count) - k) buf piece ≡ buf = rw (e, n) (ap (λ (ys : List ℕ). take k buf ++ ys) (take-append-drop count (drop k buf)) ∙ take-append-drop k buf) in
-    subst (Holds m p k old) (sym s) h
+pub holds_still : (m : Meaning) (p : ℕ) (w : Piece) (old buf piece : List ℕ) → Holds m p w.from old buf → piece ≡ bytes_of w buf → Holds m p w.from old (buffer_with w buf piece)
+holds_still m p w old buf piece h e =
+    let s : buffer_with w buf piece ≡ buf = rw e (ap (λ (ys : List ℕ). take w.from buf ++ ys) (take-append-drop (w.to - w.from) (drop w.from buf)) ∙ take-append-drop w.from buf) in
+    subst (Holds m p w.from old) (sym s) h
 
 -- one turn of the loop, done
 pub turn_ok :
-    (m : Meaning) (p k count : ℕ) (old buf piece : List ℕ) (r : Result (Unit {0}) DeviceFault) → 0 < count → (p + k) % 512 + count ≤ 512 → p + (k + count) ≤ 512 * m.sectors
-    → k + count ≤ length old → length piece ≡ length (take ((k + count) - k) (drop k buf)) → AllRead m p k → Holds m p k old buf
-    → r ≡ answer (refusal m (p + k) (length (take ((k + count) - k) (drop k buf)))) → is_ok r ≡ true
-    → piece ≡ filled (refusal m (p + k) (length (take ((k + count) - k) (drop k buf)))) (part m.bytes (p + k) (length (take ((k + count) - k) (drop k buf)))) (take ((k + count) - k) (drop k buf))
-    → AllRead m p (k + count) × Holds m p (k + count) old (put_mid k ((k + count) - k) buf piece)
-turn_ok m p k count old buf piece r pos sec dev l len a h ans ok e =
+    (m : Meaning) (p : ℕ) (w : Piece) (old buf piece : List ℕ) (r : Result (Unit {0}) DeviceFault) → w.place ≡ p + w.from → w.to ≤ length old → p + length old ≤ 512 * m.sectors
+    → length piece ≡ length (bytes_of w buf) → AllRead m p w.from → Holds m p w.from old buf
+    → r ≡ answer (refusal m w.place (length (bytes_of w buf))) → is_ok r ≡ true
+    → piece ≡ filled (refusal m w.place (length (bytes_of w buf))) (part m.bytes w.place (length (bytes_of w buf))) (bytes_of w buf)
+    → AllRead m p w.to × Holds m p w.to old (buffer_with w buf piece)
+turn_ok m p w old buf piece r at l dev len a h ans ok e =
     let lb : length buf ≡ length old = h.long in
-    let n : length (take ((k + count) - k) (drop k buf)) ≡ count = simp (length-take, length-drop) (omega arith) in
-    let i : within m.sectors (p + k) (length (take ((k + count) - k) (drop k buf))) ≡ true = rw n (search rules) in
-    let done = read_ok m (p + k) (length (take ((k + count) - k) (drop k buf))) r (take ((k + count) - k) (drop k buf)) piece i ans ok e in
-    (readable_more m p k count sec a done.0, holds_more m p k count old buf piece l (len ∙ n) h (done.1 ∙ ap (part m.bytes (p + k)) n))
+    let n : length (bytes_of w buf) ≡ w.to - w.from = simp (length-take, length-drop) (omega arith) in
+    let i : within m.sectors w.place (length (bytes_of w buf)) ≡ true = rw n (search rules) in
+    let done = read_ok m w.place (length (bytes_of w buf)) r (bytes_of w buf) piece i ans ok e in
+    (readable_more m p w at a done.0, holds_more m p w old buf piece at l (len ∙ n) h (done.1 ∙ ap (part m.bytes w.place) n))
 
 -- one turn of the loop, refused
 pub turn_err :
-    (m : Meaning) (p k count : ℕ) (old buf piece : List ℕ) (f : DeviceFault) → 0 < count → (p + k) % 512 + count ≤ 512 → p + (k + count) ≤ 512 * m.sectors
-    → k + count ≤ length old → AllRead m p k → Holds m p k old buf
-    → Err f ≡ answer (refusal m (p + k) (length (take ((k + count) - k) (drop k buf))))
-    → piece ≡ filled (refusal m (p + k) (length (take ((k + count) - k) (drop k buf)))) (part m.bytes (p + k) (length (take ((k + count) - k) (drop k buf)))) (take ((k + count) - k) (drop k buf))
-    → (b : FirstBad m p (length old) f) × Holds m p b.k old (put_mid k ((k + count) - k) buf piece)
-turn_err m p k count old buf piece f pos sec dev l a h ans e =
+    (m : Meaning) (p : ℕ) (w : Piece) (old buf piece : List ℕ) (f : DeviceFault) → w.place ≡ p + w.from → w.to ≤ length old → p + length old ≤ 512 * m.sectors
+    → AllRead m p w.from → Holds m p w.from old buf
+    → Err f ≡ answer (refusal m w.place (length (bytes_of w buf)))
+    → piece ≡ filled (refusal m w.place (length (bytes_of w buf))) (part m.bytes w.place (length (bytes_of w buf))) (bytes_of w buf)
+    → (b : FirstBad m p (length old) f) × Holds m p b.k old (buffer_with w buf piece)
+turn_err m p w old buf piece f at l dev a h ans e =
     let lb : length buf ≡ length old = h.long in
-    let n : length (take ((k + count) - k) (drop k buf)) ≡ count = simp (length-take, length-drop) (omega arith) in
-    let i : within m.sectors (p + k) (length (take ((k + count) - k) (drop k buf))) ≡ true = rw n (search rules) in
-    let no = read_err m (p + k) (length (take ((k + count) - k) (drop k buf))) f (take ((k + count) - k) (drop k buf)) piece i ans e in
-    (record { k = k; within = omega arith; before = a; refused = no.0 }, holds_still m p k count old buf piece l h no.1)
+    let n : length (bytes_of w buf) ≡ w.to - w.from = simp (length-take, length-drop) (omega arith) in
+    let i : within m.sectors w.place (length (bytes_of w buf)) ≡ true = rw n (search rules) in
+    let no = read_err m w.place (length (bytes_of w buf)) f (bytes_of w buf) piece i ans e in
+    (record { k = w.from; within = omega arith; before = a; refused = subst (λ (x : ℕ). refuses m (x / 512) ≡ Some f) at no.0 }, holds_still m p w old buf piece h no.1)
 
 -- what a buffer holds, as a list
 pub holds_list :

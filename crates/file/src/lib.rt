@@ -3,7 +3,7 @@
 
 pub mod extents;
 pub mod making;
-pub mod plain;
 pub mod readable;
+pub mod readable_file;
 pub mod reading;
 pub mod words;

@@ -1,7 +1,6 @@
 //! Inner: whether a file can be read.
 
 ghost use Rattle.std.specs.Prelude.{◌≡◌, ℕ, ◌+◌, ◌-◌, ◌*◌, ◌/◌, ◌%◌, ◌^◌, ◌<◌, ◌≤◌, true, false, MatchResult};
-ghost use Rattle.device.specs.Meanings.{Whole};
 ghost use Rattle.faults.specs.declared.device.DeviceFault.TheVariants.{Power};
 ghost use Rattle.file.specs.Extents.{Ready, Unreadable};
 ghost use Rattle.file.specs.Ranges.{SectorsRead, FirstSector};
@@ -14,11 +13,8 @@ use faults::file::{FileFault, add_place};
 
 /// Refuses an extent whose file cannot be read.
 pub fn check_readable<D: Device>(d: &mut D, extent: Extent) -> Result<(), FileFault>
-    requires { D.Device.sound d.old }
     ensures answer { MatchResult result (λ _. Ready (D.Device.meaning d.old) extent) (λ f. Unreadable (D.Device.meaning d.old) extent f) }
-    ensures whole { Whole (D.Device.meaning d.old) }
     ensures same { D.Device.meaning d.new ≡ D.Device.meaning d.old }
-    ensures sound { D.Device.sound d.new }
 {
     if !is_on(d, extent) {
         return Err(FileFault::Range);
@@ -35,10 +31,8 @@ pub fn check_readable<D: Device>(d: &mut D, extent: Extent) -> Result<(), FileFa
 
 /// Refuses a device without power.
 fn check_power<D: Device>(d: &mut D) -> Result<(), DeviceFault>
-    requires { D.Device.sound d.old }
     ensures answer { MatchResult result (λ _. (D.Device.meaning d.old).power ≡ true) (λ f. (f ≡ Power) × ((D.Device.meaning d.old).power ≡ false)) }
     ensures same { D.Device.meaning d.new ≡ D.Device.meaning d.old }
-    ensures sound { D.Device.sound d.new }
 {
     match d.state(0) {
         Err(DeviceFault::Power) => Err(DeviceFault::Power),
@@ -48,11 +42,9 @@ fn check_power<D: Device>(d: &mut D) -> Result<(), DeviceFault>
 
 /// Refuses the first of some sectors that cannot be read.
 fn check_sectors<D: Device>(d: &mut D, first: u32, end: u32) -> Result<(), DeviceFault>
-    requires sound { D.Device.sound d.old }
     requires within { end ≤ (D.Device.meaning d.old).sectors }
     ensures answer { MatchResult result (λ _. SectorsRead (D.Device.meaning d.old) first end) (λ f. FirstSector (D.Device.meaning d.old) first end f) }
     ensures same { D.Device.meaning d.new ≡ D.Device.meaning d.old }
-    ensures sound { D.Device.sound d.new }
 {
     for s in first..end {
         d.state(s)?;

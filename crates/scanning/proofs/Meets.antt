@@ -1,5 +1,5 @@
 -- What is known of the records up to a place, and one more.
-use Rattle.std.proofs.Common.{◌≡◌, ℕ, ◌+◌, ◌-◌, ◌%◌, ◌<◌, ◌≤◌, Bool, true, false, cond, eqb, ◌≢◌, List, [], ◌∷◌, ◌++◌, length, get_or, set, filter, sym, refl, ap, ◌∙◌, subst, ⊎_elim, arith, get_or-set_other, get_or-set_same}
+use Rattle.std.proofs.Common.{◌≡◌, ℕ, ◌+◌, ◌-◌, ◌%◌, ◌<◌, ◌≤◌, Bool, true, false, cond, eqb, ◌≢◌, List, [], ◌∷◌, ◌++◌, length, get_or, set, Err, filter, sym, refl, ap, ◌∙◌, subst, ⊎_elim, arith, get_or-set_other, get_or-set_same}
 use Rattle.std.specs.List.{AllByRecursion}
 use Rattle.std.proofs.lemmas.List.Elements.{filter-append}
 use Rattle.std.proofs.lemmas.List.{length-append}
@@ -11,7 +11,8 @@ use Rattle.byte_lists.specs.Bytes.{part, word_at}
 use Rattle.cdb.specs.Files.{slots_of}
 use Rattle.cdb.specs.Rules.{Rule4}
 use Rattle.cdb.specs.Verdicts.{Probes}
-use Rattle.scanning.specs.Searches.{item_at}
+use Rattle.faults.specs.declared.file.FileFault.{FileFault}
+use Rattle.scanning.specs.Searches.{item_at, Located}
 use Rattle.scanning.specs.Sweeps.{Lost, Met, Tally, Ahead}
 use Rattle.scanning.proofs.Walks.{record_at, records_more, record_here, size_here}
 
@@ -81,10 +82,9 @@ pub met_none : (f counts : List ℕ) → ((t : ℕ) → t < 256 → get_or count
 met_none f counts h = ([], refl, refl, h)
 
 -- a record without a distance
-pub met_lost : (f : List ℕ) (p end q : ℕ) (counts : List ℕ) (t : ℕ) → Met f p q counts → Ahead f p end → p < end → t ≡ table_of (item_at f p).key
-    → ((j : ℕ) → Distance (slots_of f (item_at f p)) (item_at f p) j → ⊥) → Lost f end (record { table = t; place = p })
-met_lost f p end q counts t m ([], h) l e lost = absurd (omega arith)
-met_lost f p end q counts t m (r ∷ rs, h) l e lost =
+pub met_lost : (f : List ℕ) (p end q best : ℕ) (counts : List ℕ) (y : FileFault) → Met f p q counts → Ahead f p end → p < end → Located f p best (Err y) → Lost f end y
+met_lost f p end q best counts y m ([], h) l lost = absurd (omega arith)
+met_lost f p end q best counts y m (r ∷ rs, h) l lost =
     let k : r.key ≡ (item_at f p).key = sym (ap (λ (n : ℕ). part f (p + 8) n) h.0 ∙ h.2) in
     let here : items 2048 (m.0 ++ r ∷ rs) ≡ items 2048 m.0 ++ item_at f p ∷ items (p + size r) rs =
     items_append f 2048 p m.0 (r ∷ rs) m.1 ∙ ap (λ (u : List ℕ). items 2048 m.0 ++ record { key = u; place = p } ∷ items (p + size r) rs) k in (
@@ -97,10 +97,9 @@ met_lost f p end q counts t m (r ∷ rs, h) l e lost =
           after = items (p + size r) rs;
           among = here;
           kept = probes_placed f (items 2048 m.0) q m.2;
-          broken = λ d. lost d.0 d.1;
+          broken = λ d. lost.1 d.0 d.1;
         },
-        e,
-        refl,
+        lost.0,
       ),
     )
 

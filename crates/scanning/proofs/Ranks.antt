@@ -1,13 +1,15 @@
 -- Records of equal key.
-use Rattle.std.proofs.Common.{◌≡◌, ℕ, zero, suc, ◌+◌, ◌*◌, ◌%◌, ◌<◌, ◌≤◌, min, ◌⊎◌, List, length, Some, None, Option, sym, refl, ap, ◌∙◌, subst, inl, inr, ⊎_elim, arith, below_more}
+use Rattle.std.proofs.Common.{◌≡◌, ℕ, zero, suc, ◌+◌, ◌*◌, ◌%◌, ◌<◌, ◌≤◌, min, ◌⊎◌, List, length, Ok, Err, Result, sym, refl, ap, ◌∙◌, subst, inl, inr, ⊎_elim, arith, below_more}
 use Rattle.std.proofs.lemmas.Bool.{cases_lt, cases_eq}
 use Rattle.cdb.specs.Records.{Item, hash_of}
 use Rattle.cdb.specs.Tables.{Slot, Distance}
 use Rattle.byte_lists.specs.Bytes.{word_at}
 use Rattle.cdb.specs.Files.{position, slot_count}
 use Rattle.cdb.proofs.Placement.{length_slots_at}
+use Rattle.faults.specs.declared.file.FileFault.{FileFault}
+use Rattle.scanning.specs.declared.searches.Search.{Search}
 use Rattle.scanning.specs.Searches.{slot_place, HoldsBoth, Passed, Found}
-use Rattle.scanning.specs.Searches.{item_at, Lowers, LaterAt, Searched, Outcome}
+use Rattle.scanning.specs.Searches.{item_at, Lowers, LaterAt, Searched, Located}
 use Rattle.cdb.specs.Files.{slots_of}
 use Rattle.cdb.proofs.Put.{distance_one}
 use Rattle.file.specs.declared.words.Words.{Words}
@@ -142,14 +144,9 @@ module _ (f : List ℕ) (p h : ℕ) (r : Words) (e : h ≡ hash_of (item_at f p)
       subst (λ (w : ℕ). Q (table_pos f (item_at f p).key) (table_len f (item_at f p).key) w) e
       (subst (λ (v : ℕ). Q (table_pos f (item_at f p).key) v h) is_len (subst (λ (u : ℕ). Q u r.second h) is_pos x))
 
-  pub from_table : (Q : ℕ → ℕ → ℕ → Type 0) → Q (table_pos f (item_at f p).key) (table_len f (item_at f p).key) (hash_of (item_at f p).key) → Q r.first r.second h
-  from_table Q x =
-      subst (λ (u : ℕ). Q u r.second h) (sym is_pos)
-      (subst (λ (v : ℕ). Q (table_pos f (item_at f p).key) v h) (sym is_len)
-      (subst (λ (w : ℕ). Q (table_pos f (item_at f p).key) (table_len f (item_at f p).key) w) (sym e) x))
-
 -- what a search in the key's table says of the record at p
-pub outcome : (f : List ℕ) (p best low : ℕ) (o : Option ℕ) → 0 < p → Searched f (table_pos f (item_at f p).key) (table_len f (item_at f p).key) (hash_of (item_at f p).key) p best o low → Outcome f (item_at f p) best o low
-outcome f p best low None some h = missing_distance f (table_pos f (item_at f p).key) (table_len f (item_at f p).key) (item_at f p) some h
-outcome f p best low (Some k) some h =
-    (found_distance f (table_pos f (item_at f p).key) (table_len f (item_at f p).key) (item_at f p) k h.0, lowered_some f p best some k low h.0 h.1)
+pub located : (f : List ℕ) (p best : ℕ) (r : Result Search FileFault) → 0 < p
+    → Searched f (table_pos f (item_at f p).key) (table_len f (item_at f p).key) (hash_of (item_at f p).key) p best r → Located f p best r
+located f p best (Ok x) some h =
+    (h.0, found_distance f (table_pos f (item_at f p).key) (table_len f (item_at f p).key) (item_at f p) x.distance h.1, lowered_some f p best some x.distance x.low h.1 h.2)
+located f p best (Err y) some h = (h.0, missing_distance f (table_pos f (item_at f p).key) (table_len f (item_at f p).key) (item_at f p) some h.1)

@@ -1,6 +1,8 @@
 -- A search for the slot of a record, by the words of the file.
-use Rattle.std.specs.Prelude.{◌≡◌, ℕ, ◌+◌, ◌*◌, ◌<◌, ◌≤◌, min, ◌⊎◌, List, length, Some, None, Option}
+use Rattle.std.specs.Prelude.{◌≡◌, ℕ, ◌+◌, ◌*◌, ◌%◌, ◌<◌, ◌≤◌, min, ◌⊎◌, List, length, Ok, Err, Result}
 use Rattle.byte_lists.specs.Bytes.{part, word_at}
+use Rattle.faults.specs.declared.file.FileFault.{FileFault}
+use Rattle.faults.specs.declared.file.FileFault.TheVariants.{Lost}
 use Rattle.cdb.specs.Records.{Item, table_of}
 use Rattle.cdb.specs.Tables.{slot_away, Distance}
 use Rattle.cdb.specs.Files.{slots_of}
@@ -52,10 +54,10 @@ pub record Lowest (f : List ℕ) (pos len hash p k best r : ℕ) : Type 0 where
   pub least : (i : ℕ) → i < k → LaterAt f hash p (slot_place pos len hash i) → r ≤ word_at f (slot_place pos len hash i + 4)
   pub from : (r ≡ best) ⊎ ((i : ℕ) × (i < k) × LaterAt f hash p (slot_place pos len hash i) × (r ≡ word_at f (slot_place pos len hash i + 4)))
 
--- what a search for the hash and place of the record at p finds, in the table of len slots at pos
-abbrev pub Searched : List ℕ → ℕ → ℕ → ℕ → ℕ → ℕ → Option ℕ → ℕ → Type 0
-Searched f pos len hash p best None low = Missing f pos len hash p
-Searched f pos len hash p best (Some k) low = Found f pos len hash p k × Lowest f pos len hash p k best low
+-- what a search for the hash and place of the record at p finds, in the table of len slots at pos, or that it refuses the record
+abbrev pub Searched : List ℕ → ℕ → ℕ → ℕ → ℕ → ℕ → Result Search FileFault → Type 0
+Searched f pos len hash p best (Ok x) = (x.table ≡ hash % 256) × Found f pos len hash p x.distance × Lowest f pos len hash p x.distance best x.low
+Searched f pos len hash p best (Err y) = (y ≡ Lost (hash % 256) p) × Missing f pos len hash p
 
 -- the record at q stands behind y, has its key, and a smaller distance: it breaks rule 8
 abbrev pub Overtakes : List ℕ → Item → ℕ → Type 0
@@ -69,11 +71,7 @@ pub record Lowered (f : List ℕ) (y : Item) (best r : ℕ) : Type 0 where
   pub least : (q : ℕ) → Overtakes f y q → r ≤ q
   pub from : (r ≡ best) ⊎ Overtakes f y r
 
--- the distance of a record, if it has one, and then the lowest place of a record that overtakes it
-abbrev pub Outcome : List ℕ → Item → ℕ → Option ℕ → ℕ → Type 0
-Outcome f x best None low = (j : ℕ) → Distance (slots_of f x) x j → ⊥
-Outcome f x best (Some j) low = Distance (slots_of f x) x j × Lowered f x best low
-
--- what is found for the record at p
-abbrev pub Located : List ℕ → ℕ → ℕ → Search → Type 0
-Located f p best r = (r.table ≡ table_of (item_at f p).key) × Outcome f (item_at f p) best r.distance r.low
+-- what is found for the record at p: its table, its distance, and the lowest place of a record that overtakes it; a record without a distance is refused
+abbrev pub Located : List ℕ → ℕ → ℕ → Result Search FileFault → Type 0
+Located f p best (Ok x) = (x.table ≡ table_of (item_at f p).key) × Distance (slots_of f (item_at f p)) (item_at f p) x.distance × Lowered f (item_at f p) best x.low
+Located f p best (Err y) = (y ≡ Lost (table_of (item_at f p).key) p) × ((j : ℕ) → Distance (slots_of f (item_at f p)) (item_at f p) j → ⊥)

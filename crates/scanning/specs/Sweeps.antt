@@ -2,11 +2,12 @@
 use Rattle.std.specs.Prelude.{◌≡◌, ℕ, ◌+◌, ◌<◌, ◌≤◌, ◌⊎◌, List, length, slice_index}
 use Rattle.std.specs.List.{ContainsAt as Has, AllByRecursion}
 use Rattle.byte_lists.specs.Bytes.{word_at}
+use Rattle.faults.specs.declared.file.FileFault.{FileFault}
+use Rattle.faults.specs.declared.file.FileFault.TheVariants as fault
 use Rattle.cdb.specs.Records.{Record, Records, Item, items, belonging, table_of}
 use Rattle.cdb.specs.Rules.{FirstOf, Rule4}
 use Rattle.cdb.specs.Verdicts.{Probes}
 use Rattle.scanning.specs.declared.records.Step.{Step}
-use Rattle.scanning.specs.declared.records.Spot.{Spot}
 use Rattle.scanning.specs.Searches.{Overtakes}
 
 -- n records stand from 2048 up to p
@@ -16,6 +17,10 @@ CountTo f p n = (rs : List Record) × Records f 2048 p rs × (length rs ≡ n)
 -- records stand up to p, which is before end, and the one at p ends past it
 abbrev pub Past : List ℕ → ℕ → ℕ → Type 0
 Past f end p = (rs : List Record) × Records f 2048 p rs × (p < end) × (end < p + (8 + (word_at f p + word_at f (p + 4))))
+
+-- the first record that ends past end is refused
+abbrev pub EndsPast : List ℕ → ℕ → FileFault → Type 0
+EndsPast f end x = (p : ℕ) × (x ≡ fault.Record p) × Past f end p
 
 -- records stand from p up to end
 abbrev pub Ahead : List ℕ → ℕ → ℕ → Type 0
@@ -49,7 +54,6 @@ pub record Placed (f : List ℕ) (end q : ℕ) (counts : List ℕ) (low : ℕ) :
   pub met : Met f end q counts
   pub swept : Swept f end end low
 
--- the first record up to end without a distance
-abbrev pub Lost : List ℕ → ℕ → Spot → Type 0
-Lost f end r = (rs : List Record) × Records f 2048 end rs
-    × ((x : Item) × FirstOf (items 2048 rs) (Rule4 f) x × (r.table ≡ table_of x.key) × (r.place ≡ x.place))
+-- the first record up to end without a distance is refused
+abbrev pub Lost : List ℕ → ℕ → FileFault → Type 0
+Lost f end y = (rs : List Record) × Records f 2048 end rs × ((x : Item) × FirstOf (items 2048 rs) (Rule4 f) x × (y ≡ fault.Lost (table_of x.key) x.place))

@@ -1,33 +1,32 @@
 //! Inner: rule 2, the header.
 
-ghost use Rattle.std.specs.Prelude.{◌≡◌, ℕ, ◌+◌, ◌-◌, ◌*◌, ◌/◌, ◌%◌, ◌^◌, ◌<◌, ◌≤◌, true, false, Decides, MatchOption};
-ghost use Rattle.cdb.specs.Rules.{Rule2, First, Each};
-ghost use Rattle.file.specs.Extents.{Ready, file};
-ghost use Rattle.scanning.specs.Headers.{Stands};
+ghost use Rattle.std.specs.Prelude.{◌≡◌, ℕ, ◌+◌, ◌-◌, ◌*◌, ◌/◌, ◌%◌, ◌^◌, ◌<◌, ◌≤◌, length, true, false, Decides, MatchResult};
+ghost use Rattle.file.specs.ReadableFiles.{contents, SameFile};
+ghost use Rattle.scanning.specs.Headers.{Stands, BreaksEntry, Header};
 
 use device::device::Device;
-use file::extents::Extent;
-use file::plain::words_in;
+use faults::file::FileFault;
+use file::readable_file::ReadableFile;
 use file::words::Words;
 
-/// The first table whose header entry breaks rule 2.
-pub fn broken_entry<D: Device>(d: &mut D, e: Extent) -> Option<u32>
-    requires sound { D.Device.sound d.old }
-    requires ready { Ready (D.Device.meaning d.old) e }
-    requires long { 2048 ≤ e.len }
-    ensures answer { MatchOption result (Each (Rule2 (file (D.Device.meaning d.old) e))) (λ t. First 256 (Rule2 (file (D.Device.meaning d.old) e)) t) }
-    ensures same { D.Device.meaning d.new ≡ D.Device.meaning d.old }
-    ensures sound { D.Device.sound d.new }
+/// Where the records end, at the first table; refuses the first table whose header entry breaks rule 2.
+// That the tables lie inside the file stands in the clauses of all that reads tables. A type for it would have to hold the file, which
+// is lent already, and to be lent again to each of these functions, which is no plainer.
+pub fn check_header<D: Device>(file: &mut ReadableFile<'_, D>) -> Result<u32, FileFault>
+    requires { 2048 ≤ length (contents file.old) }
+    ensures answer { MatchResult result (λ end. Header (contents file.old) end) (λ x. BreaksEntry (contents file.old) x) }
+    ensures same { SameFile file.old file.new }
 {
+    let len = file.len();
     let mut due: u64 = 0;
     for t in 0..256u32 {
-        let entry = words_in(d, e, 8 * t);
-        if !stands(t, due, entry, e.len) {
-            return Some(t);
+        let entry = file.words(8 * t);
+        if !stands(t, due, entry, len) {
+            return Err(FileFault::Entry(t));
         }
         due = entry.first as u64 + 8 * entry.second as u64;
     }
-    None
+    Ok(file.words(0).first)
 }
 
 /// Whether a header entry is as rule 2 asks, in a file of `len` bytes: `due` is the end of the table before.

@@ -1,51 +1,44 @@
 //! Inner: rule 4 over all records, and what rule 8 needs.
 
-ghost use Rattle.std.specs.Prelude.{◌≡◌, ℕ, ◌+◌, ◌-◌, ◌*◌, ◌/◌, ◌%◌, ◌^◌, ◌<◌, ◌≤◌, length, MatchResult, slice_index};
-ghost use Rattle.cdb.specs.Files.{ends};
-ghost use Rattle.file.specs.Extents.{Ready, file};
+ghost use Rattle.std.specs.Prelude.{◌≡◌, ℕ, ◌+◌, ◌-◌, ◌*◌, ◌/◌, ◌%◌, ◌^◌, ◌<◌, ◌≤◌, length, MatchResult};
+ghost use Rattle.file.specs.ReadableFiles.{contents, SameFile};
+ghost use Rattle.scanning.specs.Headers.{TablesInside};
 ghost use Rattle.scanning.specs.Sweeps.{Ahead, Placed, Lost};
 
-use crate::records::{Placing, Spot};
+use crate::records::Placing;
 use crate::searching::locate;
 use crate::walk::record_at;
 use device::device::Device;
-use file::extents::Extent;
+use faults::file::FileFault;
+use file::readable_file::ReadableFile;
 
-/// Finds the distance of each record; counts the records of each table. Or the first record without a distance.
+/// Finds the distance of each record and counts the records of each table, or refuses the first record without a distance.
 pub fn place_records<D: Device>(
-    d: &mut D,
-    e: Extent,
+    file: &mut ReadableFile<'_, D>,
     end: u32,
-    counts: &mut [u32],
-) -> Result<Placing, Spot>
-    requires sound { D.Device.sound d.old }
-    requires ready { Ready (D.Device.meaning d.old) e }
-    requires tables { (2048 ≤ e.len) × (((t : ℕ) → t < 256 → ends (file (D.Device.meaning d.old) e) t ≤ e.len)) }
-    requires within { (2048 ≤ end) × (end ≤ e.len) }
-    requires records { Ahead (file (D.Device.meaning d.old) e) 2048 end }
-    requires counts { (length counts.old ≡ 256) × (((t : ℕ) → t < 256 → slice_index counts.old t ≡ 0)) }
-    ensures answer { MatchResult result (λ x. Placed (file (D.Device.meaning d.old) e) end x.probes counts.new x.low) (λ x. Lost (file (D.Device.meaning d.old) e) end x) }
-    ensures same { D.Device.meaning d.new ≡ D.Device.meaning d.old }
-    ensures sound { D.Device.sound d.new }
+) -> Result<Placing, FileFault>
+    requires tables { TablesInside (contents file.old) }
+    requires within { (2048 ≤ end) × (end ≤ length (contents file.old)) }
+    requires records { Ahead (contents file.old) 2048 end }
+    ensures answer { MatchResult result (λ x. Placed (contents file.old) end x.probes x.counts x.low) (λ x. Lost (contents file.old) end x) }
+    ensures same { SameFile file.old file.new }
 {
-    let mut p = 2048;
+    let mut counts = [0u32; 256];
     let mut probes: u64 = 0;
     let mut low = end;
-    while p < end {
-        let step = record_at(d, e, p, end);
-        let found = locate(d, e, p, step.key, low);
-        match found.distance {
-            None => return Err(Spot {
-                table: found.table,
-                place: p,
-            }),
-            Some(j) => {
-                probes += j as u64 + 1;
-                counts[found.table as usize] += 1;
-            }
-        }
+    let mut place = 2048;
+    // As in `count_records`, each record says where the next one stands.
+    while place < end {
+        let step = record_at(file, place, end);
+        let found = locate(file, place, step.key, low)?;
+        probes += found.distance as u64 + 1;
+        counts[found.table as usize] += 1;
         low = found.low;
-        p = step.next;
+        place = step.next;
     }
-    Ok(Placing { probes, low })
+    Ok(Placing {
+        probes,
+        low,
+        counts,
+    })
 }

@@ -7,16 +7,12 @@ pub struct Step {
     pub next: u32,
 }
 
-/// A table, and the place of something that breaks a rule in it.
-#[derive(Clone, Copy)]
-pub struct Spot {
-    pub table: u32,
-    pub place: u32,
-}
-
-/// What is known of all records: their probes, and the lowest place of one that breaks rule 8.
-#[derive(Clone, Copy)]
+/// What is known of all records: their probes, the lowest place of one that breaks rule 8, and how many belong to each table.
+// Where none breaks it the place is the end of the records: the lower of two places is one comparison then, where an `Option` would
+// be matched at each.
+#[derive(Drop)]
 pub struct Placing {
     pub probes: u64,
     pub low: u32,
+    pub counts: [u32; 256],
 }

@@ -1,53 +1,48 @@
 //! Inner: rule 3, the records.
 
-ghost use Rattle.std.specs.Prelude.{◌≡◌, ℕ, ◌+◌, ◌-◌, ◌*◌, ◌/◌, ◌%◌, ◌^◌, ◌<◌, ◌≤◌, MatchResult};
-ghost use Rattle.file.specs.Extents.{Ready, file};
-ghost use Rattle.scanning.specs.Sweeps.{CountTo, Past, Ahead, Steps};
+ghost use Rattle.std.specs.Prelude.{◌≡◌, ℕ, ◌+◌, ◌-◌, ◌*◌, ◌/◌, ◌%◌, ◌^◌, ◌<◌, ◌≤◌, length, MatchResult};
+ghost use Rattle.file.specs.ReadableFiles.{contents, SameFile};
+ghost use Rattle.scanning.specs.Sweeps.{CountTo, EndsPast, Ahead, Steps};
 
 use crate::records::Step;
 use device::device::Device;
-use file::extents::Extent;
-use file::plain::words_in;
+use faults::file::FileFault;
+use file::readable_file::ReadableFile;
 
-/// The number of records before `end`, or the place of the first that ends past it.
-pub fn count_records<D: Device>(d: &mut D, e: Extent, end: u32) -> Result<u32, u32>
-    requires sound { D.Device.sound d.old }
-    requires ready { Ready (D.Device.meaning d.old) e }
-    requires within { (2048 ≤ end) × (end ≤ e.len) }
-    ensures answer { MatchResult result (λ n. CountTo (file (D.Device.meaning d.old) e) end n) (λ p. Past (file (D.Device.meaning d.old) e) end p) }
-    ensures same { D.Device.meaning d.new ≡ D.Device.meaning d.old }
-    ensures sound { D.Device.sound d.new }
+/// The number of records before `end`; refuses the first that ends past it.
+pub fn count_records<D: Device>(file: &mut ReadableFile<'_, D>, end: u32) -> Result<u32, FileFault>
+    requires { (2048 ≤ end) × (end ≤ length (contents file.old)) }
+    ensures answer { MatchResult result (λ n. CountTo (contents file.old) end n) (λ x. EndsPast (contents file.old) end x) }
+    ensures same { SameFile file.old file.new }
 {
-    let mut p = 2048;
-    let mut n = 0;
-    while p < end {
-        if end - p < 8 {
-            return Err(p);
+    let mut place = 2048;
+    let mut count = 0;
+    // How far to go is what each record says, so no range or iterator is plainer.
+    while place < end {
+        if end - place < 8 {
+            return Err(FileFault::Record(place));
         }
-        let words = words_in(d, e, p);
-        let next = p as u64 + 8 + words.first as u64 + words.second as u64;
+        let words = file.words(place);
+        let next = place as u64 + 8 + words.first as u64 + words.second as u64;
         if next > end as u64 {
-            return Err(p);
+            return Err(FileFault::Record(place));
         }
-        p = next as u32;
-        n += 1;
+        place = next as u32;
+        count += 1;
     }
-    Ok(n)
+    Ok(count)
 }
 
-/// The key length of the record at `p`, and where it ends.
-pub(crate) fn record_at<D: Device>(d: &mut D, e: Extent, p: u32, end: u32) -> Step
-    requires sound { D.Device.sound d.old }
-    requires ready { Ready (D.Device.meaning d.old) e }
-    requires within { (p < end) × (end ≤ e.len) }
-    requires records { Ahead (file (D.Device.meaning d.old) e) p end }
-    ensures found { Steps (file (D.Device.meaning d.old) e) p end result }
-    ensures same { D.Device.meaning d.new ≡ D.Device.meaning d.old }
-    ensures sound { D.Device.sound d.new }
+/// The key length of the record at a place, and where it ends.
+pub(crate) fn record_at<D: Device>(file: &mut ReadableFile<'_, D>, place: u32, end: u32) -> Step
+    requires within { (place < end) × (end ≤ length (contents file.old)) }
+    requires records { Ahead (contents file.old) place end }
+    ensures found { Steps (contents file.old) place end result }
+    ensures same { SameFile file.old file.new }
 {
-    let words = words_in(d, e, p);
+    let words = file.words(place);
     Step {
         key: words.first,
-        next: p + 8 + words.first + words.second,
+        next: place + 8 + words.first + words.second,
     }
 }

@@ -1,17 +1,20 @@
-use Rattle.std.proofs.Common.{◌≡◌, ℕ, ◌-◌, ◌*◌, ◌<◌, ◌≤◌, get_or}
-use Rattle.file.specs.Extents.{file}
+use Rattle.std.proofs.Common.{◌≡◌, ℕ, ◌-◌, ◌*◌, ◌<◌, ◌≤◌, length, get_or}
+use Rattle.file.specs.ReadableFiles.{contents, SameFile}
 use Rattle.scanning.specs.Sweeps.{Met, Ahead, Swept}
 use Rattle.scanning.proofs.placing.place_records.Given as goal
 
-abbrev pub invariant-loop-p : goal.invariant-loop-p
-invariant-loop-p g l =
-    (g.D.Device.meaning l.d ≡ g.D.Device.meaning l.initial.d) × g.D.Device.sound l.d
-    × (2048 ≤ l.p) × (l.p ≤ l.end)
-    × Ahead (file (g.D.Device.meaning l.initial.d) l.e) l.p l.end
-    × Met (file (g.D.Device.meaning l.initial.d) l.e) l.p l.probes l.counts
-    × (l.probes ≤ 4294967296 * (l.p - 2048))
-    × ((t : ℕ) → t < 256 → get_or l.counts t 0 ≤ l.p - 2048)
-    × Swept (file (g.D.Device.meaning l.initial.d) l.e) l.p l.end l.low
+abbrev pub invariant-loop-place : goal.invariant-loop-place
+invariant-loop-place g l = record {
+  after : 2048 ≤ l.place;
+  within : l.place ≤ l.end;
+  ahead : Ahead (contents l.initial.file) l.place l.end;
+  met : Met (contents l.initial.file) l.place l.probes l.counts;
+  few : l.probes ≤ 4294967296 * (l.place - 2048);
+  tables : length l.counts ≡ 256;
+  counts : (t : ℕ) → t < 256 → get_or l.counts t 0 ≤ l.place - 2048;
+  swept : Swept (contents l.initial.file) l.place l.end l.low;
+  same : SameFile l.initial.file l.file;
+}
 
-abbrev pub decreases-loop-p : goal.decreases-loop-p
-decreases-loop-p g l = l.end - l.p
+abbrev pub decreases-loop-place : goal.decreases-loop-place
+decreases-loop-place g l = l.end - l.place

@@ -1,29 +1,29 @@
-use Rattle.std.proofs.Common.{◌≡◌, ℕ, ◌+◌, ◌*◌, refl, ap, ◌∙◌, subst, rules, below_more}
-use Rattle.device.specs.Meanings.{Meaning}
-use Rattle.file.specs.Extents.{file, WordsAt}
+use Rattle.std.proofs.Common.{◌≡◌, ℕ, ◌+◌, ◌*◌, ap, below_more}
+use Rattle.file.specs.Extents.{WordsAt}
+use Rattle.file.specs.ReadableFiles.{contents}
+use Rattle.file.proofs.SameFiles.{same_file_then}
 use Rattle.scanning.specs.Searches.{slot_place, Lowers}
 use Rattle.scanning.proofs.Probes.{passed_here}
 use Rattle.scanning.proofs.Ranks.{lowest_more}
 use Rattle.scanning.proofs.searching.search.Goals as goal
 
-pub loop-j-preserved : goal.loop-j-preserved
-loop-j-preserved g c =
-    let m : Meaning = g.D.Device.meaning c.args.d.now in
-    let e = c.args.e in
-    let f = file m e in
-    let j = c.loop-j.j in
-    let low = c.loop-j.low in
-    let r = c.words_in-slot.result in
-    let p = c.args.head.first + 8 * c.turn.result in
-    let s1 : g.D.Device.meaning c.loop-j.d ≡ m = c.loop-j.invariant.0 in
-    let s2 : g.D.Device.meaning c.words_in-slot.new.d ≡ m = c.words_in-slot.ensures.same ∙ s1 in
-    let pair : WordsAt f p r = subst (λ (n : Meaning). WordsAt (file n e) p r) s1 c.words_in-slot.ensures.words in
-    let z : p ≡ slot_place c.args.head.first c.args.head.second c.args.hash j = ap (λ (i : ℕ). c.args.head.first + 8 * i) c.turn.ensures.slot in
-    let lo : Lowers f c.args.hash c.args.p r.first r.second low c.lowered-low.result =
-    subst (λ (n : Meaning). Lowers (file n e) c.args.hash c.args.p r.first r.second low c.lowered-low.result) s2 c.lowered-low.ensures.answer in (
-      search rules,
-      search rules,
-      refl,
-      below_more _ _ c.loop-j.invariant.3 (passed_here f p _ c.args.hash c.args.p r pair z c.if-slot-eq0.false c.else-slot-hash.either),
-      lowest_more f c.args.head.first c.args.head.second c.args.hash c.args.p j c.args.best low c.lowered-low.result r p pair z c.loop-j.invariant.4 lo,
-    )
+pub loop-distance-preserved : goal.loop-distance-preserved
+loop-distance-preserved g c =
+    let f = contents c.args.file.now in
+    let head = c.args.head in
+    let hash = c.args.sought.hash in
+    let place = c.args.sought.place in
+    let j = c.loop-distance.distance in
+    let low = c.loop-distance.low in
+    let r = c.words-slot.result in
+    let inv = c.loop-distance.invariant in
+    let s2 = same_file_then inv.same c.words-slot.ensures.same in
+    let p : ℕ = head.first + 8 * c.slot_away.result in
+    let pair : WordsAt f p r = rw inv.same.contents at c.words-slot.ensures.words in
+    let z : p ≡ slot_place head.first head.second hash j = ap (λ (i : ℕ). head.first + 8 * i) c.slot_away.ensures.slot in
+    let lo : Lowers f hash place r.first r.second low c.lowered-low.result = rw s2.contents at c.lowered-low.ensures.answer in
+    record {
+      passed = below_more _ _ inv.passed (passed_here f p _ hash place r pair z c.if-slot-eq0.false c.else-slot-sought.either);
+      lowest = lowest_more f head.first head.second hash place j c.args.best low c.lowered-low.result r p pair z inv.lowest lo;
+      same = same_file_then s2 c.lowered-low.ensures.same;
+    }

@@ -1,11 +1,10 @@
-use Rattle.std.proofs.Common.{◌≡◌, ◌/◌, ◌%◌}
-use Rattle.file.specs.Extents.{file}
+use Rattle.file.specs.ReadableFiles.{contents, SameFile}
 use Rattle.scanning.specs.Searches.{Passed, Lowest}
 use Rattle.scanning.proofs.searching.search.Given as goal
 
-abbrev pub invariant-loop-j : goal.invariant-loop-j
-invariant-loop-j g l =
-    (g.D.Device.meaning l.d ≡ g.D.Device.meaning l.initial.d) × g.D.Device.sound l.d
-    × (l.home ≡ l.hash / 256 % l.len)
-    × Passed (file (g.D.Device.meaning l.initial.d) l.e) l.head.first l.len l.hash l.p l.j
-    × Lowest (file (g.D.Device.meaning l.initial.d) l.e) l.head.first l.len l.hash l.p l.j l.best l.low
+abbrev pub invariant-loop-distance : goal.invariant-loop-distance
+invariant-loop-distance g l = record {
+  passed : Passed (contents l.initial.file) l.head.first l.head.second l.sought.hash l.sought.place l.distance;
+  lowest : Lowest (contents l.initial.file) l.head.first l.head.second l.sought.hash l.sought.place l.distance l.best l.low;
+  same : SameFile l.initial.file l.file;
+}

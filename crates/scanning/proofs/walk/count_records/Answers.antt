@@ -1,20 +1,18 @@
-use Rattle.std.proofs.Common.{◌≡◌, length, refl, subst, arith, rules}
-use Rattle.device.specs.Meanings.{Meaning}
-use Rattle.file.specs.Extents.{file, WordsAt}
+use Rattle.std.proofs.Common.{refl, arith}
+use Rattle.file.specs.Extents.{WordsAt}
+use Rattle.file.specs.ReadableFiles.{contents}
+use Rattle.file.proofs.SameFiles.{same_file_then}
 use Rattle.scanning.proofs.Walks.{count_more}
 use Rattle.scanning.proofs.walk.count_records.Goals as goal
 
-pub loop-p-preserved : goal.loop-p-preserved
-loop-p-preserved g c =
-    let m : Meaning = g.D.Device.meaning c.args.d.now in
-    let f = file m c.args.e in
-    let r = c.words_in-words.result in
-    let p = c.loop-p.p in
-    let pair : WordsAt f p r = subst (λ (n : Meaning). WordsAt (file n c.args.e) p r) c.loop-p.invariant.0 c.words_in-words.ensures.words in
-    let l : length f ≡ c.args.e.len = c.requires.ready.long in (
-      search rules,
-      search rules,
-      omega arith,
-      omega arith,
-      count_more f p c.loop-p.n _ r pair c.loop-p.invariant.4 refl (omega (arith, l)),
-    )
+pub loop-place-preserved : goal.loop-place-preserved
+loop-place-preserved g c =
+    let f = contents c.args.file.now in
+    let inv = c.loop-place.invariant in
+    let pair : WordsAt f c.loop-place.place c.words-words.result = rw inv.same.contents at c.words-words.ensures.words in
+    record {
+      few = omega arith;
+      within = omega arith;
+      counted = count_more f c.loop-place.place c.loop-place.count _ c.words-words.result pair inv.counted refl (omega arith);
+      same = same_file_then inv.same c.words-words.ensures.same;
+    }

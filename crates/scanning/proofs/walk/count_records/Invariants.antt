@@ -1,13 +1,15 @@
-use Rattle.std.proofs.Common.{◌≡◌, ◌+◌, ◌-◌, ◌*◌, ◌≤◌}
-use Rattle.file.specs.Extents.{file}
+use Rattle.std.proofs.Common.{◌+◌, ◌-◌, ◌*◌, ◌≤◌}
+use Rattle.file.specs.ReadableFiles.{contents, SameFile}
 use Rattle.scanning.specs.Sweeps.{CountTo}
 use Rattle.scanning.proofs.walk.count_records.Given as goal
 
-abbrev pub invariant-loop-p : goal.invariant-loop-p
-invariant-loop-p g l =
-    (g.D.Device.meaning l.d ≡ g.D.Device.meaning l.initial.d) × g.D.Device.sound l.d
-    × (2048 + 8 * l.n ≤ l.p) × (l.p ≤ l.end)
-    × CountTo (file (g.D.Device.meaning l.initial.d) l.e) l.p l.n
+abbrev pub invariant-loop-place : goal.invariant-loop-place
+invariant-loop-place g l = record {
+  few : 2048 + 8 * l.count ≤ l.place;
+  within : l.place ≤ l.end;
+  counted : CountTo (contents l.initial.file) l.place l.count;
+  same : SameFile l.initial.file l.file;
+}
 
-abbrev pub decreases-loop-p : goal.decreases-loop-p
-decreases-loop-p g l = l.end - l.p
+abbrev pub decreases-loop-place : goal.decreases-loop-place
+decreases-loop-place g l = l.end - l.place
