@@ -4,10 +4,10 @@ ghost use Rattle.std.specs.Prelude.{◌≡◌, ◌≤◌, length, take};
 ghost use Rattle.cdb.specs.Verdicts.{Judged};
 ghost use Rattle.answering.specs.Answers.{Answers, answer_verdict};
 
-use crate::answers::Answer;
+use crate::fault::InputFault;
 use auditing::auditing::audit;
+use auditing::audits::Counts;
 use byte_lists::slices::lay_over;
-use faults::report::Report;
 use file::extents::Extent;
 use memory::reading::ReadMemory;
 
@@ -15,31 +15,23 @@ use memory::reading::ReadMemory;
 const LIMIT: usize = 61440;
 
 /// Audits a file of at most 61,440 bytes; a longer one is refused with 27.
-pub fn audit_input(input: &[u8]) -> Answer
+pub fn audit_input(input: &[u8]) -> Result<Counts, InputFault>
     ensures { Answers input.now result }
 {
     if input.len() > LIMIT {
-        return Answer::Refused(Report {
-            number: 27,
-            table: 256,
-            place: 61440,
-        });
+        return Err(InputFault::Long);
     }
     // The file lies in whole sectors, so that its last bytes are on the device too.
-    let mut sectors = [0; 61440];
+    let mut sectors = [0; LIMIT];
     lay_over(&mut sectors, 0, input);
     audit_laid(&sectors, input.len() as u32)
 }
 
 /// Audits the file of `len` bytes that some sectors begin with.
-fn audit_laid(sectors: &[u8], len: u32) -> Answer
-    requires { (length sectors.now ≡ 61440) × (len ≤ 61440) }
+fn audit_laid(sectors: &[u8; LIMIT], len: u32) -> Result<Counts, InputFault>
+    requires { len ≤ 61440 }
     ensures { Judged (take len sectors.now) (answer_verdict result) }
 {
-    let extent = Extent { start: 0, len };
     let mut device = ReadMemory::new(sectors);
-    match audit(&mut device, extent) {
-        Ok(counts) => Answer::Accepted(counts),
-        Err(fault) => Answer::Refused(fault.report()),
-    }
+    Ok(audit(&mut device, Extent { start: 0, len })?)
 }

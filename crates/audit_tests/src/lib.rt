@@ -3,7 +3,6 @@
 
 #[cfg(test)]
 mod tests {
-    use answering::answers::Answer;
     use answering::input::audit_input;
     use answering::line::line;
     use auditing::audits::Counts;
@@ -14,8 +13,8 @@ mod tests {
     fn takes_as_much_as_the_limit(rt: HostRuntime) -> Result<(), Fail> {
         let zeros = vec![in rt.alloc(); 0u8; 61440]?;
         assert_eq!(rt;
-            audit_input(&zeros),
-            Answer::Refused(Report {
+            audit_input(&zeros).map_err(Report::from),
+            Err(Report {
                 number: 2,
                 table: 0,
                 place: 0,
@@ -28,8 +27,8 @@ mod tests {
     fn refuses_a_byte_more(rt: HostRuntime) -> Result<(), Fail> {
         let zeros = vec![in rt.alloc(); 0u8; 61441]?;
         assert_eq!(rt;
-            audit_input(&zeros),
-            Answer::Refused(Report {
+            audit_input(&zeros).map_err(Report::from),
+            Err(Report {
                 number: 27,
                 table: 256,
                 place: 61440,
@@ -41,8 +40,8 @@ mod tests {
     #[test]
     fn refuses_no_bytes_as_short(rt: HostRuntime) {
         assert_eq!(rt;
-            audit_input(b""),
-            Answer::Refused(Report {
+            audit_input(b"").map_err(Report::from),
+            Err(Report {
                 number: 1,
                 table: 256,
                 place: 0,
@@ -55,7 +54,7 @@ mod tests {
         let heap = rt.alloc();
         let ok = line(
             heap,
-            Answer::Accepted(Counts {
+            Ok(Counts {
                 records: 2,
                 slots: 4,
                 probes: 3,
@@ -64,7 +63,7 @@ mod tests {
         assert_eq!(rt; ok.as_str(), "ok,2,4,3\n");
         let no = line(
             heap,
-            Answer::Refused(Report {
+            Err(Report {
                 number: 8,
                 table: 196,
                 place: 2058,

@@ -3,6 +3,7 @@
 
 use answering::input::audit_input;
 use answering::line::line;
+use faults::report::Report;
 use std::{env, fs, io};
 
 fn main(rt: HostRuntime) -> io::Result<()> {
@@ -10,7 +11,7 @@ fn main(rt: HostRuntime) -> io::Result<()> {
     let names = env::args(&rt)?;
     for name in names.skip(1) {
         let file = fs::read(&rt, name.as_str())?;
-        let told = line(heap, audit_input(&file))?;
+        let told = line(heap, audit_input(&file).map_err(Report::from))?;
         print!(rt; "{name} {told}")?;
     }
     Ok(())
