@@ -1,27 +1,25 @@
 -- A lent list that is filled with records.
-use Rattle.std.proofs.Common.{◌≡◌, ℕ, ◌+◌, ◌<◌, ◌≤◌, min, List, [], ◌∷◌, ◌++◌, map, length, take, drop, set, Ok, Err, Result, sym, refl, ap, ◌∙◌, subst, ⊎_elim, arith}
+use Rattle.std.proofs.Common.{◌≡◌, ℕ, ◌+◌, ◌<◌, ◌≤◌, min, List, [], ◌∷◌, ◌++◌, map, length, take, drop, set, Some, None, Ok, Err, Option, Result, sym, refl, ap, ◌∙◌, subst, ⊎_elim, arith, length-append, length-drop}
 use Rattle.std.proofs.lemmas.Bool.{cases_lt}
-use Rattle.std.proofs.lemmas.List.{take_more_set, map_push, drop-set-lt, length-set, length-map, length-append, length-take-le, drop-drop, take_at}
+use Rattle.std.proofs.lemmas.List.{take_more_set, map_push, length-map, length-take-le, take-append-le, take_at, drop_at}
 use Rattle.faults.specs.declared.file.FileFault.{FileFault}
 use Rattle.cdb.specs.Records.{Record, Records, size}
 use Rattle.cdb.specs.Files.{position}
 use Rattle.records.specs.declared.placed.PlacedRecord.{PlacedRecord}
 use Rattle.cdb.specs.Rules.{Rule1}
-use Rattle.records.specs.Readings.{TableInside, Passing, Placed, record_of, Fills}
+use Rattle.records.specs.Readings.{TableInside, Passing, Placed, record_of, Hands, Fills}
 use Rattle.records.specs.Laws.{FillsInOrder}
 use Rattle.records.proofs.Walks.{joined, rest}
 use Rattle.records.proofs.Proved.{same_record, keeps, headed, no_passing}
 
 -- i of n are handed out, and the reader stands behind them
-pub record Filling (f : List ℕ) (p q i n room : ℕ) (es fs : List PlacedRecord) : Type 0 where
+pub record Filling (f : List ℕ) (p q i n room : ℕ) (fs : List PlacedRecord) : Type 0 where
   pub stand : Records f p q (map record_of (take i fs))
   pub placed : Placed p (take i fs)
   pub end : ℕ
   pub todo : List Record
   pub ahead : Records f q end todo
   pub count : i + length todo ≡ n
-  pub same : drop i fs ≡ drop i es
-  pub long : length fs ≡ length es
   pub within : end ≤ position f 0
   pub whole : n < room → end ≡ position f 0
 
@@ -29,17 +27,17 @@ placed_push : (f : List ℕ) (p q : ℕ) (xs : List PlacedRecord) (e : PlacedRec
 placed_push f p q [] e r a b = subst (λ (n : ℕ). Placed n (e ∷ [])) (sym r) b
 placed_push f p q (x ∷ xs) e r a b = (a.0, a.1, placed_push f (p + size (record_of x)) q xs e r.5 a.2 b)
 
-pub begun : (f : List ℕ) (p q n room : ℕ) (rs : List Record) (es : List PlacedRecord) → Records f p q rs → n ≡ length rs → q ≤ position f 0 → (n < room → q ≡ position f 0)
-    → Filling f p p 0 n room es es
-begun f p q n room rs es r c w l =
-    record { stand = refl; placed = tt; end = q; todo = rs; ahead = r; count = omega arith; same = refl; long = refl; within = w; whole = l }
+pub begun : (f : List ℕ) (p q n room : ℕ) (rs : List Record) (fs : List PlacedRecord) → Records f p q rs → n ≡ length rs → q ≤ position f 0 → (n < room → q ≡ position f 0)
+    → Filling f p p 0 n room fs
+begun f p q n room rs fs r c w l =
+    record { stand = refl; placed = tt; end = q; todo = rs; ahead = r; count = omega arith; within = w; whole = l }
 
 -- what is still to come starts with a record
 some : (f : List ℕ) (q t i n : ℕ) (todo : List Record) → Records f q t todo → i + length todo ≡ n → i < n → (r : Record) × (rs : List Record) × (todo ≡ r ∷ rs)
 some f q t i n [] a c l = absurd (omega arith)
 some f q t i n (r ∷ rs) a c l = (r, rs, refl)
 
-module _ (f : List ℕ) (p q i n room : ℕ) (es fs : List PlacedRecord) (w : Filling f p q i n room es fs) (l : i < n) where
+module _ (f : List ℕ) (p q i n room : ℕ) (fs : List PlacedRecord) (w : Filling f p q i n room fs) (l : i < n) where
   -- the reader does not stand at the end, nor at what breaks rule 3
   pub not_ended : q ≡ position f 0 → ⊥
   not_ended e =
@@ -54,7 +52,7 @@ module _ (f : List ℕ) (p q i n room : ℕ) (es fs : List PlacedRecord) (w : Fi
       omega (arith, a.0, a.1, a.4, b.1, w.within)
 
   -- the next record is handed out
-  pub one_more : (t : ℕ) (e : PlacedRecord) → i < length fs → Records f q t (record_of e ∷ []) → Placed q (e ∷ []) → Filling f p t (i + 1) n room es (set fs i e)
+  pub one_more : (t : ℕ) (e : PlacedRecord) → i < length fs → Records f q t (record_of e ∷ []) → Placed q (e ∷ []) → Filling f p t (i + 1) n room (set fs i e)
   one_more t e m r a =
       let s = some f q w.end i n w.todo w.ahead w.count l in
       let h = subst (Records f q w.end) s.2 w.ahead in
@@ -70,22 +68,56 @@ module _ (f : List ℕ) (p q i n room : ℕ) (es fs : List PlacedRecord) (w : Fi
         todo = s.1;
         ahead = subst (λ (k : ℕ). Records f k w.end s.1) z h.5;
         count = omega arith;
-        same = drop-set-lt (i + 1) fs i e (omega arith) ∙ sym (drop-drop 1 i fs) ∙ ap (drop 1) w.same ∙ drop-drop 1 i es;
-        long = length-set fs i e ∙ w.long;
         within = w.within;
         whole = w.whole;
       }
 
+-- the next call's answer: a record, which goes to place i of the list
+pub record Handed (f : List ℕ) (p t i n room : ℕ) (fs : List PlacedRecord) (r : Result (Option PlacedRecord) FileFault) : Type 0 where
+  pub handed : PlacedRecord
+  pub is : r ≡ Ok (Some handed)
+  pub next : Filling f p t (i + 1) n room (set fs i handed)
+
+pub handed : (f : List ℕ) → Rule1 f → TableInside f → (p q t i n room : ℕ) (fs : List PlacedRecord) (r : Result (Option PlacedRecord) FileFault)
+    → Filling f p q i n room fs → i < n → i < length fs → (g : List ℕ) → g ≡ f → Hands g q r t → Handed f p t i n room fs r
+handed f long inside p q t i n room fs (Ok (Some e)) w l m g o k =
+    let h = subst (λ (u : List ℕ). Hands u q (Ok (Some e)) t) o k in
+    record { handed = e; is = refl; next = one_more f p q i n room fs w l t e m h.2 h.3 }
+handed f long inside p q t i n room fs (Ok None) w l m g o k =
+    let h = subst (λ (u : List ℕ). Hands u q (Ok None) t) o k in
+    absurd (not_ended f p q i n room fs w l h.2)
+handed f long inside p q t i n room fs (Err x) w l m g o k =
+    let h = subst (λ (u : List ℕ). Hands u q (Err x) t) o k in
+    absurd (⊎_elim (headed f long inside x)
+    (λ (b : Rule1 f × TableInside f × Passing f q x). not_passing f p q i n room fs w l x b.2) h.0)
+
 -- nothing is left to hand out
-pub done : (f : List ℕ) (p q i n room : ℕ) (es fs : List PlacedRecord) → Filling f p q i n room es fs → n ≤ i → Filling f p q n n room es fs × (q ≤ position f 0) × (n < room → q ≡ position f 0)
-done f p q i n room es fs w l = done_by w.todo refl
+pub done : (f : List ℕ) (p q i n room : ℕ) (fs : List PlacedRecord) → Filling f p q i n room fs → n ≤ i → (i ≡ n) × (q ≤ position f 0) × (n < room → q ≡ position f 0)
+done f p q i n room fs w l = done_by w.todo refl
   where
-    done_by : (todo : List Record) → w.todo ≡ todo → Filling f p q n n room es fs × (q ≤ position f 0) × (n < room → q ≡ position f 0)
+    done_by : (todo : List Record) → w.todo ≡ todo → (i ≡ n) × (q ≤ position f 0) × (n < room → q ≡ position f 0)
     done_by [] e =
         let a : q ≡ w.end = subst (Records f q w.end) e w.ahead in
-        let c : i ≡ n = omega (arith, w.count, ap length e) in
-        (subst (λ (k : ℕ). Filling f p q k n room es fs) c w, omega (arith, w.within), λ h. a ∙ w.whole h)
+        let c = w.count in
+        (omega (arith, ap length e), omega (arith, w.within), λ h. a ∙ w.whole h)
     done_by (r ∷ rs) e = absurd (omega (arith, w.count, ap length e))
+
+-- the first places are filled, and the rest of the list stays
+pub filled : (f : List ℕ) (p q i n room : ℕ) (es fs : List PlacedRecord) → Rule1 f → TableInside f → n ≤ room → room ≡ length es → length fs ≡ n
+    → Filling f p q i n room fs → n ≤ i → Fills f p room es (Ok n) (fs ++ drop n es) q
+filled f p q i n room es fs long inside m r c w l =
+    let d = done f p q i n room fs w l in
+    let t : take i fs ≡ take n (fs ++ drop n es) = ap (λ (k : ℕ). take k fs) d.0 ∙ sym (take-append-le n fs (drop n es) (omega arith)) in (
+      long,
+      inside,
+      subst (λ (xs : List PlacedRecord). Records f p q (map record_of xs)) t w.stand,
+      subst (Placed p) t w.placed,
+      d.1,
+      omega (arith, length-append fs (drop n es), length-drop n es),
+      drop_at fs (drop n es) n c,
+      m,
+      d.2,
+    )
 
 -- records that are read from the same place on agree as far as they go
 pub agree : (f : List ℕ) (p q t : ℕ) (xs ys : List Record) → Records f p q xs → Records f p t ys → q ≤ t → (zs : List Record) × (ys ≡ xs ++ zs) × Records f q t zs

@@ -20,20 +20,11 @@ impl<'a> RecordReader<'a> {
         ensures lawful { HandsOutInOrder file.now }
         ensures judged { RefusesAsJudged file.now }
     {
-        RecordReader::standing(file, 2048)
-    }
-
-    fn standing(file: &'a [u8], place: u32) -> RecordReader<'a>
-        requires { place ≡ 2048 }
-        ensures stands { (result.file.now ≡ file.now) × (result.place ≡ place) }
-        ensures any { HandsOutRecords file.now }
-        ensures lawful { HandsOutInOrder file.now }
-        ensures judged { RefusesAsJudged file.now }
-    {
-        RecordReader { file, place }
+        RecordReader { file, place: 2048 }
     }
 
     /// The next record, or none where the records end. A refused reader stays put.
+    // No `Iterator`: a refused reader refuses again, so its items would not end.
     pub fn next(&mut self) -> Result<Option<PlacedRecord<'a>>, FileFault>
         ensures hands { Hands self.old.file.now self.old.place result self.new.place }
         ensures same { self.new.file.now ≡ self.old.file.now }
@@ -42,7 +33,7 @@ impl<'a> RecordReader<'a> {
         let end = records_end(file)?;
         let found = record_at(file, self.place, end)?;
         if let Some(record) = found {
-            self.place = record.data_place + record.data.len() as u32;
+            self.place = record.end();
         }
         Ok(found)
     }
@@ -54,26 +45,11 @@ impl<'a> RecordReader<'a> {
         ensures lawful { FillsInOrder self.old.file.now self.old.place (length into.old) result into.new }
         ensures same { self.new.file.now ≡ self.old.file.now }
     {
-        let room = into.len();
-        self.fill_first(into, room)
-    }
-
-    /// The same for the first places of a list, so many as are asked for.
-    fn fill_first(&mut self, into: &mut [PlacedRecord<'a>], room: usize) -> Result<usize, FileFault>
-        requires { room ≤ length into.old }
-        ensures fills { Fills self.old.file.now self.old.place room into.old result into.new self.new.place }
-        ensures lawful { FillsInOrder self.old.file.now self.old.place room result into.new }
-        ensures same { self.new.file.now ≡ self.old.file.now }
-    {
-        let n = self.ahead(room)?;
-        for i in 0..n {
-            match self.next() {
-                Err(_) => unreachable(),
-                Ok(found) => match found {
-                    None => unreachable(),
-                    Some(record) => into[i] = record,
-                },
-            }
+        let n = self.ahead(into.len())?;
+        // So many records are there, so none of these calls is refused or comes to the end.
+        // As `text` does with its reader: a trait for two readers would need laws that are longer than this loop.
+        for slot in into[..n].iter_mut() {
+            *slot = self.next().unwrap().unwrap();
         }
         Ok(n)
     }
@@ -85,17 +61,13 @@ impl<'a> RecordReader<'a> {
         let file = self.file;
         let end = records_end(file)?;
         let mut place = self.place;
-        let mut n = 0;
-        while n < most {
+        for n in 0..most {
             match record_at(file, place, end)? {
                 None => return Ok(n),
-                Some(record) => {
-                    place = record.data_place + record.data.len() as u32;
-                    n += 1;
-                }
+                Some(record) => place = record.end(),
             }
         }
-        Ok(n)
+        Ok(most)
     }
 }
 

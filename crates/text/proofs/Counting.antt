@@ -1,13 +1,11 @@
 -- A text that is read from its start on.
-use Rattle.std.proofs.Common.{◌≡◌, ℕ, ◌+◌, ◌≤◌, List, [], ◌∷◌, ◌++◌, length, drop, Ok, Err, decimal, sym, refl, ap, ◌∙◌, subst, arith, length-append}
+use Rattle.std.proofs.Common.{◌≡◌, ℕ, ◌+◌, ◌≤◌, List, [], ◌∷◌, ◌++◌, length, drop, Some, None, Ok, Err, Option, Result, decimal, sym, refl, ap, ◌∙◌, subst, arith, length-append}
 use Rattle.std.proofs.lemmas.List.{length_push}
 use Rattle.std.proofs.ByRecursion.{All-push}
 use Rattle.cdb.specs.Records as cdb
 use Rattle.text.specs.declared.fault.TextFault.{TextFault}
 use Rattle.text.specs.declared.fault.TextFault.TheVariants.{Malformed, Short, Long}
 use Rattle.text.specs.declared.lent.LentRecord.{LentRecord}
-use Rattle.text.specs.declared.token.Token.{Token}
-use Rattle.text.specs.declared.token.Token.TheVariants.{Record, End}
 use Rattle.text.specs.Texts.{line, Proper, TextOf}
 use Rattle.text.specs.Readings.{lent, Hands}
 use Rattle.text.specs.Wholes.{bytes_in, Tallies}
@@ -33,7 +31,7 @@ length_line r =
     omega arith
 
 -- one more record is read
-pub read_push : (t : List ℕ) (p q : ℕ) (rs : List cdb.Record) (x : LentRecord) → Read t 0 p rs → Hands t p (Ok (Record x)) q → Read t 0 q (rs ++ (lent x ∷ []))
+pub read_push : (t : List ℕ) (p q : ℕ) (rs : List cdb.Record) (x : LentRecord) → Read t 0 p rs → Hands t p (Ok (Some x)) q → Read t 0 q (rs ++ (lent x ∷ []))
 read_push t p q rs x r h =
     record {
       proper = All-push Proper rs (lent x) r.proper h.1;
@@ -52,7 +50,7 @@ pub record Counted (t : List ℕ) (q n b : ℕ) : Type 0 where
 pub none : (t : List ℕ) → Counted t 0 0 0
 none t = record { list = []; read = record { proper = tt; is = refl; within = λ l. l }; records = refl; bytes = refl; few = omega arith }
 
-pub one_more : (t : List ℕ) (p q n b : ℕ) (x : LentRecord) → Counted t p n b → Hands t p (Ok (Record x)) q → Counted t q (n + 1) (b + (length x.key.now + length x.«data».now))
+pub one_more : (t : List ℕ) (p q n b : ℕ) (x : LentRecord) → Counted t p n b → Hands t p (Ok (Some x)) q → Counted t q (n + 1) (b + (length x.key.now + length x.«data».now))
 one_more t p q n b x c h =
     let cn = c.records in
     let cb = c.bytes in
@@ -66,7 +64,7 @@ one_more t p q n b x c h =
     }
 
 -- the text ends, and all of it is read
-pub all : (t : List ℕ) (p q n b : ℕ) → Counted t p n b → Hands t p (Ok End) q → (rs : List cdb.Record) × TextOf t rs × (n ≡ length rs) × (b ≡ bytes_in rs)
+pub all : (t : List ℕ) (p q n b : ℕ) → Counted t p n b → Hands t p (Ok None) q → (rs : List cdb.Record) × TextOf t rs × (n ≡ length rs) × (b ≡ bytes_in rs)
 all t p q n b c h = (c.list, (c.read.proper, c.read.is ∙ ap (lines c.list) h.0 ∙ sym (text_lines c.list)), c.records, c.bytes)
 
 -- a refusal is that of the whole text
@@ -75,6 +73,6 @@ refused t p q n b (Malformed e) c h = whole_refused c.list t p e c.read.proper c
 refused t p q n b (Short m) c h = h
 refused t p q n b Long c h = h
 
--- a token that was handed out, over the text that was passed
-pub over : (t u : List ℕ) (p q : ℕ) (x y : Token) → u ≡ t → x ≡ y → Hands u p (Ok x) q → Hands t p (Ok y) q
-over t u p q x y e o h = subst (λ (v : List ℕ). Hands v p (Ok y) q) e (subst (λ (z : Token). Hands u p (Ok z) q) o h)
+-- a call's answer, over the text that was passed
+pub over : (t u : List ℕ) (p q : ℕ) (r s : Result (Option LentRecord) TextFault) → u ≡ t → r ≡ s → Hands u p r q → Hands t p s q
+over t u p q r s e o h = subst (λ (v : List ℕ). Hands v p s q) e (subst (λ (z : Result (Option LentRecord) TextFault). Hands u p z q) o h)

@@ -1,12 +1,11 @@
 -- A lent list that is filled with the records of a text.
-use Rattle.std.proofs.Common.{◌≡◌, ℕ, ◌+◌, ◌<◌, ◌≤◌, List, [], ◌∷◌, ◌++◌, map, length, take, drop, set, Ok, Err, Result, sym, refl, ap, ◌∙◌, subst, arith}
+use Rattle.std.proofs.Common.{◌≡◌, ℕ, ◌+◌, ◌<◌, ◌≤◌, List, [], ◌∷◌, ◌++◌, map, length, take, drop, set, Some, None, Ok, Err, Option, Result, sym, refl, ap, ◌∙◌, subst, arith, length-append, length-drop}
 use Rattle.std.specs.List.{AllByRecursion}
-use Rattle.std.proofs.lemmas.List.{take_more_set, map_push, drop-set-lt, length-set, length-map, length-take-le, drop-drop}
+use Rattle.std.proofs.lemmas.List.{take_more_set, map_push, length-map, length-take-le, take-append-le, drop_at}
 use Rattle.cdb.specs.Records as cdb
 use Rattle.text.specs.declared.fault.TextFault.{TextFault}
 use Rattle.text.specs.declared.fault.TextFault.TheVariants.{Malformed, Short, Long}
 use Rattle.text.specs.declared.lent.LentRecord.{LentRecord}
-use Rattle.text.specs.declared.token.Token.TheVariants.{Record}
 use Rattle.text.specs.Texts.{text, Proper, TextOf}
 use Rattle.text.specs.Readings.{lent, Hands}
 use Rattle.text.specs.Wholes.{Reads, GivesTheRecords}
@@ -29,24 +28,22 @@ pub one_text : (t : List ℕ) (rs ss : List cdb.Record) → TextOf t rs → Text
 one_text t rs ss a b = one_list rs ss a.0 b.0 (sym a.1 ∙ b.1)
 
 -- i of n are handed out, and the reader stands behind them
-pub record Filling (t : List ℕ) (q i n : ℕ) (xs ys : List LentRecord) : Type 0 where
+pub record Filling (t : List ℕ) (q i n : ℕ) (ys : List LentRecord) : Type 0 where
   pub read : Read t 0 q (map lent (take i ys))
   pub todo : List cdb.Record
   pub ahead : TextOf (drop q t) todo
   pub count : i + length todo ≡ n
-  pub same : drop i ys ≡ drop i xs
-  pub long : length ys ≡ length xs
 
-pub begun : (t : List ℕ) (n : ℕ) (rs : List cdb.Record) (xs : List LentRecord) → TextOf t rs → n ≡ length rs → Filling t 0 0 n xs xs
-begun t n rs xs a c =
-    record { read = record { proper = tt; is = refl; within = λ l. l }; todo = rs; ahead = a; count = omega arith; same = refl; long = refl }
+pub begun : (t : List ℕ) (n : ℕ) (rs : List cdb.Record) (ys : List LentRecord) → TextOf t rs → n ≡ length rs → Filling t 0 0 n ys
+begun t n rs ys a c =
+    record { read = record { proper = tt; is = refl; within = λ l. l }; todo = rs; ahead = a; count = omega arith }
 
 -- what is still to come starts with a record
 some : (u : List ℕ) (i n : ℕ) (todo : List cdb.Record) → TextOf u todo → i + length todo ≡ n → i < n → (r : cdb.Record) × (rs : List cdb.Record) × (todo ≡ r ∷ rs)
 some u i n [] a c l = absurd (omega arith)
 some u i n (r ∷ rs) a c l = (r, rs, refl)
 
-module _ (t : List ℕ) (q i n : ℕ) (xs ys : List LentRecord) (w : Filling t q i n xs ys) (l : i < n) where
+module _ (t : List ℕ) (q i n : ℕ) (ys : List LentRecord) (w : Filling t q i n ys) (l : i < n) where
   -- the text does not end here, and is not refused
   pub not_ended : drop q t ≡ 10 ∷ [] → ⊥
   not_ended e =
@@ -60,7 +57,7 @@ module _ (t : List ℕ) (q i n : ℕ) (xs ys : List LentRecord) (w : Filling t q
   not_refused u Long h = h
 
   -- the next record is handed out
-  pub one_more : (u : ℕ) (x : LentRecord) → i < length ys → Hands t q (Ok (Record x)) u → Filling t u (i + 1) n xs (set ys i x)
+  pub one_more : (u : ℕ) (x : LentRecord) → i < length ys → Hands t q (Ok (Some x)) u → Filling t u (i + 1) n (set ys i x)
   one_more u x m h =
       let s = some (drop q t) i n w.todo w.ahead w.count l in
       let a = subst (TextOf (drop q t)) s.2 w.ahead in
@@ -73,25 +70,42 @@ module _ (t : List ℕ) (q i n : ℕ) (xs ys : List LentRecord) (w : Filling t q
         todo = s.1;
         ahead = (a.0.1, o.1);
         count = omega arith;
-        same = drop-set-lt (i + 1) ys i x (omega arith) ∙ sym (drop-drop 1 i ys) ∙ ap (drop 1) w.same ∙ drop-drop 1 i xs;
-        long = length-set ys i x ∙ w.long;
       }
 
--- all are handed out
-pub done : (t : List ℕ) (q i n room : ℕ) (xs ys : List LentRecord) → Filling t q i n xs ys → n ≤ i → n ≤ room → Reads t room xs (Ok n) ys
-done t q i n room xs ys w l m = done_by w.todo refl
+-- the next call's answer: a record, which goes to place i of the list
+pub record Handed (t : List ℕ) (u i n : ℕ) (ys : List LentRecord) (r : Result (Option LentRecord) TextFault) : Type 0 where
+  pub handed : LentRecord
+  pub is : r ≡ Ok (Some handed)
+  pub next : Filling t u (i + 1) n (set ys i handed)
+
+handed_by : (t : List ℕ) (q u i n : ℕ) (ys : List LentRecord) (r : Result (Option LentRecord) TextFault) → Filling t q i n ys → i < n → i < length ys → Hands t q r u
+    → Handed t u i n ys r
+handed_by t q u i n ys (Ok (Some x)) w l m h = record { handed = x; is = refl; next = one_more t q i n ys w l u x m h }
+handed_by t q u i n ys (Ok None) w l m h = absurd (not_ended t q i n ys w l h.0)
+handed_by t q u i n ys (Err f) w l m h = absurd (not_refused t q i n ys w l u f h)
+
+pub handed : (t : List ℕ) (q u i n : ℕ) (ys : List LentRecord) (r : Result (Option LentRecord) TextFault) → Filling t q i n ys → i < n → i < length ys
+    → (v : List ℕ) → v ≡ t → Hands v q r u → Handed t u i n ys r
+handed t q u i n ys r w l m v e h = handed_by t q u i n ys r w l m (subst (λ (x : List ℕ). Hands x q r u) e h)
+
+-- all are handed out, and the rest of the list stays
+pub filled : (t : List ℕ) (q i n : ℕ) (xs ys : List LentRecord) → n ≤ length xs → length ys ≡ n → Filling t q i n ys → n ≤ i
+    → Reads t (length xs) xs (Ok n) (ys ++ drop n xs)
+filled t q i n xs ys m b w l = filled_by w.todo refl
   where
-    done_by : (todo : List cdb.Record) → w.todo ≡ todo → Reads t room xs (Ok n) ys
-    done_by [] e =
+    filled_by : (todo : List cdb.Record) → w.todo ≡ todo → Reads t (length xs) xs (Ok n) (ys ++ drop n xs)
+    filled_by [] e =
         let a = subst (TextOf (drop q t)) e w.ahead in
-        let c : i ≡ n = omega (arith, w.count, ap length e) in
-        let f : Filling t q n n xs ys = subst (λ (k : ℕ). Filling t q k n xs ys) c w in (
-          (f.read.proper, f.read.is ∙ ap (lines (map lent (take n ys))) a.1 ∙ sym (text_lines (map lent (take n ys)))),
+        let c = w.count in
+        let d : i ≡ n = omega (arith, ap length e) in
+        let f : take i ys ≡ take n (ys ++ drop n xs) = ap (λ (k : ℕ). take k ys) d ∙ sym (take-append-le n ys (drop n xs) (omega arith)) in
+        let r = subst (λ (zs : List LentRecord). Read t 0 q (map lent zs)) f w.read in (
+          (r.proper, r.is ∙ ap (lines (map lent (take n (ys ++ drop n xs)))) a.1 ∙ sym (text_lines (map lent (take n (ys ++ drop n xs))))),
           m,
-          f.long,
-          f.same,
+          omega (arith, length-append ys (drop n xs), length-drop n xs),
+          drop_at ys (drop n xs) n b,
         )
-    done_by (r ∷ rs) e = absurd (omega (arith, w.count, ap length e))
+    filled_by (r ∷ rs) e = absurd (omega (arith, w.count, ap length e))
 
 -- the text of some records gives these records
 pub gives : (t : List ℕ) (room : ℕ) (xs ys : List LentRecord) (r : Result ℕ TextFault) → room ≤ length xs → Reads t room xs r ys → GivesTheRecords t room r ys

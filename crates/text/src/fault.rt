@@ -16,27 +16,14 @@ pub enum TextFault {
     Long,
 }
 
-impl TextFault {
-    /// Its number, table and place.
-    pub fn report(&self) -> Report
-        ensures { result ≡ text_report self.now }
-    {
-        match *self {
-            TextFault::Malformed(place) => Report {
-                number: 10,
-                table: 256,
-                place: place as u64,
-            },
-            TextFault::Short(limit) => Report {
-                number: 27,
-                table: 256,
-                place: limit as u64,
-            },
-            TextFault::Long => Report {
-                number: 27,
-                table: 256,
-                place: 4294967295,
-            },
+impl From<TextFault> for Report {
+    ghost from_gives = { λ fault report. report ≡ text_report fault };
+
+    fn from(fault: TextFault) -> Report {
+        match fault {
+            TextFault::Malformed(place) => Report::placed(10, place as u64),
+            TextFault::Short(limit) => Report::placed(27, limit as u64),
+            TextFault::Long => Report::placed(27, 4294967295),
         }
     }
 }

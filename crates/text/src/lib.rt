@@ -3,7 +3,6 @@
 
 pub mod fault;
 pub mod lent;
-pub mod lexer;
 pub mod reader;
 pub mod reading;
 pub mod samples;
@@ -11,5 +10,4 @@ pub mod scan;
 pub mod span;
 pub mod state;
 pub mod tally;
-pub mod token;
 pub mod whole;

@@ -8,7 +8,6 @@ use crate::fault::TextFault;
 use crate::lent::LentRecord;
 use crate::reader::TextReader;
 use crate::scan::scan;
-use crate::token::Token;
 
 impl<'a> TextReader<'a> {
     /// A reader at the start of a text.
@@ -19,42 +18,27 @@ impl<'a> TextReader<'a> {
         ensures refuses { RefusesTheWhole text.now }
         ensures one { OneAnswer text.now }
     {
-        TextReader::standing(text, 0)
+        TextReader { text, place: 0 }
     }
 
-    fn standing(text: &'a [u8], place: usize) -> TextReader<'a>
-        requires { place ≡ 0 }
-        ensures stands { (result.text.now ≡ text.now) × (result.place ≡ place) }
-        ensures order { ReadsInOrder text.now }
-        ensures ends { EndsWithItsRecords text.now }
-        ensures refuses { RefusesTheWhole text.now }
-        ensures one { OneAnswer text.now }
-    {
-        TextReader { text, place }
-    }
-
-    /// The next record, or the end of the text. A refused reader stays put, and so does one at the end.
-    pub fn next(&mut self) -> Result<Token<'a>, TextFault>
+    /// The next record, or none at the end of the text. A refused reader stays put, and so does one at the end.
+    // No `Iterator`: a refused reader refuses again, so its items would not end.
+    pub fn next(&mut self) -> Result<Option<LentRecord<'a>>, TextFault>
         ensures hands { Hands self.old.text.now self.old.place result self.new.place }
         ensures same { self.new.text.now ≡ self.old.text.now }
     {
         let text = self.text;
-        match scan(text, self.place) {
-            Err(place) => Err(TextFault::Malformed(place)),
-            Ok(found) => match found {
-                None => Ok(Token::End),
-                Some(span) => {
-                    let key_len = span.key as usize;
-                    let data_len = span.data as usize;
-                    let data_end = span.next - 1;
-                    let key_end = data_end - (data_len + 2);
-                    self.place = span.next;
-                    Ok(Token::Record(LentRecord {
-                        key: &text[key_end - key_len..key_end],
-                        data: &text[data_end - data_len..data_end],
-                    }))
-                }
-            },
-        }
+        let Some(span) = scan(text, self.place)? else {
+            return Ok(None);
+        };
+        let key_len = span.key as usize;
+        let data_len = span.data as usize;
+        let data_end = span.next - 1;
+        let key_end = data_end - (data_len + 2);
+        self.place = span.next;
+        Ok(Some(LentRecord {
+            key: &text[key_end - key_len..key_end],
+            data: &text[data_end - data_len..data_end],
+        }))
     }
 }

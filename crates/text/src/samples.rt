@@ -13,13 +13,5 @@ pub fn leading_zero() -> Result<Tally, TextFault>
     ensures refused { result ≡ Err (Malformed 2) }
     ensures samples { Samples }
 {
-    count_sample(b"+01,1:a->1")
-}
-
-fn count_sample(text: &[u8]) -> Result<Tally, TextFault>
-    requires { text.now ≡ codes "+01,1:a->1" }
-    ensures refused { result ≡ Err (Malformed 2) }
-    ensures samples { Samples }
-{
-    tally(text)
+    tally(b"+01,1:a->1")
 }

@@ -1,41 +1,38 @@
-//! Inner: one token of a text.
+//! Inner: one record of a text, or its end.
 
 ghost use Rattle.std.specs.Prelude.{◌≡◌, ◌≤◌, length};
 ghost use Rattle.text.specs.Scans.{Scans};
 
-use crate::lexer::Lexer;
+use crate::fault::TextFault;
 use crate::span::Span;
 use crate::state::State;
 
-/// The record that starts at a place, or none if the text ends there; or the first byte that no text has there, or the length of a text that ends early.
-pub(crate) fn scan(text: &[u8], start: usize) -> Result<Option<Span>, usize>
+/// The record that starts at a place, or none if the text ends there. A text is refused at the first byte that no text has there, or at its length if it ends early.
+pub(crate) fn scan(text: &[u8], start: usize) -> Result<Option<Span>, TextFault>
     requires { start ≤ length text.now }
     ensures { Scans text.now start result }
 {
-    let mut lexer = Lexer {
-        state: State::Start,
-    };
+    let mut state = State::Start;
     let mut at = start;
+    // How far to go is what the state says, so no range or iterator is plainer.
     while at < text.len() {
-        if !lexer.take(text[at]) {
-            return Err(at);
-        }
+        state = state.after(text[at]).ok_or(TextFault::Malformed(at))?;
         at += 1;
-        if let State::Record(key, data) = lexer.state {
+        if let State::Record(key, data) = state {
             return Ok(Some(Span {
                 key,
                 data,
                 next: at,
             }));
         }
-        let skip = lexer.skips();
+        let skip = state.skips();
         if text.len() - at < skip {
-            return Err(text.len());
+            return Err(TextFault::Malformed(text.len()));
         }
         at += skip;
     }
-    match lexer.state {
+    match state {
         State::End => Ok(None),
-        _ => Err(text.len()),
+        _ => Err(TextFault::Malformed(text.len())),
     }
 }

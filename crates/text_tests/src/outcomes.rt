@@ -7,10 +7,10 @@ use text_writer::outcome::check_text;
 
 fn tells(text: &[u8], expected: &[u8]) -> Result<(), Fail> {
     let mut line = [0u8; 46];
-    match check_text(text, &mut line) {
-        Ok(n) => { check_eq(&line[0..n], expected) },
-        Err(_) => Err(Fail::new("refused")),
-    }
+    let Ok(n) = check_text(text, &mut line) else {
+        return Err(Fail::new("refused"));
+    };
+    check_eq(&line[..n], expected)
 }
 
 #[test]

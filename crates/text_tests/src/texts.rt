@@ -1,17 +1,14 @@
 //! Texts, each with the number of its records or the place where it is refused.
 
+use crate::lists::record;
 use checks::check_eq;
 use std::test::Fail;
 use text::fault::TextFault;
 use text::reader::TextReader;
-use text::token::Token;
 use text::whole::tally;
 
 fn counts(text: &[u8], records: usize) -> Result<(), Fail> {
-    match tally(text) {
-        Ok(counted) => { check_eq(counted.records, records) },
-        Err(_) => Err(Fail::new("the text is refused")),
-    }
+    check_eq(tally(text).map(|counted| counted.records), Ok(records))
 }
 
 fn refuses(text: &[u8], place: usize) -> Result<(), Fail> {
@@ -92,55 +89,25 @@ fn no_byte_of_the_frame_may_change() -> Result<(), Fail> {
     Ok(())
 }
 
-fn hands(reader: &mut TextReader<'_>, key: &[u8], data: &[u8]) -> Result<(), Fail> {
-    match reader.next() {
-        Err(_) => Err(Fail::new("refused")),
-        Ok(token) => match token {
-            Token::End => Err(Fail::new("the end")),
-            Token::Record(record) => {
-                check_eq(record.key, key)?;
-                check_eq(record.data, data)
-            }
-        },
-    }
-}
-
-fn ends(reader: &mut TextReader<'_>) -> Result<(), Fail> {
-    match reader.next() {
-        Err(_) => Err(Fail::new("refused")),
-        Ok(token) => match token {
-            Token::End => Ok(()),
-            Token::Record(_) => Err(Fail::new("a record")),
-        },
-    }
-}
-
-fn stops(reader: &mut TextReader<'_>, place: usize) -> Result<(), Fail> {
-    match reader.next() {
-        Err(fault) => { check_eq(fault, TextFault::Malformed(place)) },
-        Ok(_) => Err(Fail::new("not refused")),
-    }
-}
-
 #[test]
 fn tokens_in_order_then_the_end_again_and_again() -> Result<(), Fail> {
     let mut reader = TextReader::new(b"+3,5:one->Hello\n+0,0:->\n+2,4:->->\n->\n\n\n");
-    hands(&mut reader, b"one", b"Hello")?;
-    hands(&mut reader, b"", b"")?;
-    hands(&mut reader, b"->", b"\n->\n")?;
-    ends(&mut reader)?;
-    ends(&mut reader)?;
-    ends(&mut reader)
+    check_eq(reader.next(), Ok(Some(record(b"one", b"Hello"))))?;
+    check_eq(reader.next(), Ok(Some(record(b"", b""))))?;
+    check_eq(reader.next(), Ok(Some(record(b"->", b"\n->\n"))))?;
+    check_eq(reader.next(), Ok(None))?;
+    check_eq(reader.next(), Ok(None))?;
+    check_eq(reader.next(), Ok(None))
 }
 
 #[test]
 fn a_refused_reader_stays_put() -> Result<(), Fail> {
     let mut reader = TextReader::new(b"+1,1:a->1\n+1,1:b-2\n\n");
-    hands(&mut reader, b"a", b"1")?;
-    stops(&mut reader, 17)?;
-    stops(&mut reader, 17)?;
+    check_eq(reader.next(), Ok(Some(record(b"a", b"1"))))?;
+    check_eq(reader.next(), Err(TextFault::Malformed(17)))?;
+    check_eq(reader.next(), Err(TextFault::Malformed(17)))?;
     let mut reader = TextReader::new(b"+1,1:a->1\n\n+");
-    hands(&mut reader, b"a", b"1")?;
-    stops(&mut reader, 11)?;
-    stops(&mut reader, 11)
+    check_eq(reader.next(), Ok(Some(record(b"a", b"1"))))?;
+    check_eq(reader.next(), Err(TextFault::Malformed(11)))?;
+    check_eq(reader.next(), Err(TextFault::Malformed(11)))
 }

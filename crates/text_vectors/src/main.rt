@@ -3,8 +3,9 @@
 #![tactic(auto)]
 
 use anyhow::anyhow;
-use byte_lists::slices::equal;
 use c_calls::in_memory::find_in_memory;
+use faults::file::FileFault;
+use faults::report::Report;
 use records::placed::PlacedRecord;
 use records::reader::RecordReader;
 use std::fs;
@@ -53,7 +54,7 @@ fn both(rt: &HostRuntime, name: &str) -> anyhow::Result<()> {
     Ok(println!(rt; "{name}: ok,{records},{bytes}, same records, same text, all found")?)
 }
 
-fn compared(rt: &HostRuntime, text: &[u8], file: &[u8]) -> anyhow::Result<Tally> {
+fn compared<'a>(rt: &HostRuntime, text: &'a [u8], file: &'a [u8]) -> anyhow::Result<Tally> {
     let Ok(counted) = tally(text) else {
         return Err(anyhow!("the text is refused"));
     };
@@ -72,10 +73,10 @@ fn compared(rt: &HostRuntime, text: &[u8], file: &[u8]) -> anyhow::Result<Tally>
     if read != Ok(counted.records) || filled != Ok(counted.records) {
         return Err(anyhow!("not all records are read"));
     }
-    if !same_records(&from_text, &from_file) || !in_place(&from_file, file) {
+    let again = lent(rt, &from_file)?;
+    if from_text != again || !in_place(&from_file, file) {
         return Err(anyhow!("the records differ"));
     }
-    let again = lent(rt, &from_file)?;
     if !written(rt, &from_text, text)? || !written(rt, &again, text)? {
         return Err(anyhow!("the text does not come back"));
     }
@@ -96,39 +97,23 @@ fn lent<'a>(rt: &HostRuntime, records: &[PlacedRecord<'a>]) -> anyhow::Result<Ve
     Ok(list)
 }
 
-fn same_records(from_text: &[LentRecord<'_>], from_file: &[PlacedRecord<'_>]) -> bool {
-    for (a, b) in from_text.iter().zip(from_file.iter()) {
-        if !equal(a.key, b.key) || !equal(a.data, b.data) {
-            return false;
-        }
-    }
-    true
-}
-
 /// Whether keys and data stand in the file at the places that were told.
 fn in_place(records: &[PlacedRecord<'_>], file: &[u8]) -> bool {
-    for record in records {
-        let key_place = record.place as usize + 8;
-        let data_place = record.data_place as usize;
-        if !stands(file, key_place, record.key) || !stands(file, data_place, record.data) {
-            return false;
-        }
-    }
-    true
+    records.iter().all(|record| {
+        stands(file, record.place as usize + 8, record.key)
+            && stands(file, record.data_place as usize, record.data)
+    })
 }
 
 fn stands(file: &[u8], place: usize, part: &[u8]) -> bool {
-    match file.get(place..place.saturating_add(part.len())) {
-        Some(found) => equal(found, part),
-        None => false,
-    }
+    file.get(place..place.saturating_add(part.len())) == Some(part)
 }
 
 /// Whether the records are written as this text.
 fn written(rt: &HostRuntime, records: &[LentRecord<'_>], text: &[u8]) -> anyhow::Result<bool> {
     let mut buffer = vec![in rt.alloc(); 0u8; text.len()]?;
     let written = write_text(records, &mut buffer);
-    Ok(written == Ok(text.len()) && equal(&buffer, text))
+    Ok(written == Ok(text.len()) && buffer.as_slice() == text)
 }
 
 /// Whether each record's data are found under its key, by the record's number among those of the key, and none after the last.
@@ -141,70 +126,60 @@ fn looked_up(rt: &HostRuntime, records: &[PlacedRecord<'_>], file: &[u8]) -> any
     memory.extend_from_slice(file)?;
     // Memory is read in whole sectors, and the last one of a file is seldom full.
     memory.extend_from_slice(&[0; 512])?;
-    for record in records {
-        let before = count_before(records, record.key, record.place);
-        let all = count_before(records, record.key, len);
-        if !finds(&memory, len, record, before) || !ends(&memory, len, record.key, all) {
-            return Ok(false);
-        }
-    }
-    Ok(true)
+    Ok(
+        records.iter().all(|record| {
+            let before = count_before(records, record.key, record.place);
+            let all = count_before(records, record.key, len);
+            finds(&memory, len, record, before) && ends(&memory, len, record.key, all)
+        }),
+    )
 }
 
 /// How many records of a key stand before a place.
 fn count_before(records: &[PlacedRecord<'_>], key: &[u8], place: u32) -> u32 {
-    let mut n = 0u32;
-    for record in records {
-        if record.place < place && equal(record.key, key) {
-            n = n.saturating_add(1);
-        }
-    }
-    n
+    let count = records
+        .iter()
+        .filter(|record| record.place < place && record.key == key)
+        .count();
+    u32::try_from(count).unwrap_or(u32::MAX)
 }
 
 fn finds(memory: &[u8], len: u32, record: &PlacedRecord<'_>, n: u32) -> bool {
-    match find_in_memory(memory, len, record.key, n) {
-        Ok(Some(found)) => {
-            found.place == record.data_place && found.len as usize == record.data.len()
-        }
-        Ok(None) => false,
-        Err(_) => false,
-    }
+    let Ok(Some(found)) = find_in_memory(memory, len, record.key, n) else {
+        return false;
+    };
+    found.place == record.data_place && found.len as usize == record.data.len()
 }
 
 fn ends(memory: &[u8], len: u32, key: &[u8], n: u32) -> bool {
-    match find_in_memory(memory, len, key, n) {
-        Ok(None) => true,
-        Ok(Some(_)) => false,
-        Err(_) => false,
-    }
+    matches!(find_in_memory(memory, len, key, n), Ok(None))
 }
 
 /// A file alone: how many records it has, or how it is refused.
 fn alone(rt: &HostRuntime, name: &str) -> anyhow::Result<()> {
     let file = fs::read(rt, format!(in rt.alloc(); "{name}.cdb")?)?;
-    let mut reader = RecordReader::new(&file);
-    let mut records = 0u64;
-    let mut bytes = 0usize;
-    for _ in 0..file.len() {
-        match reader.next() {
-            Err(fault) => {
-                let told = fault.report();
-                let number = told.number;
-                let table = told.table;
-                let place = told.place;
-                return Ok(println!(rt; "{name}: no,{number},{table},{place}")?);
-            }
-            Ok(found) => match found {
-                None => break,
-                Some(record) => {
-                    records = records.saturating_add(1);
-                    bytes = bytes
-                        .saturating_add(record.key.len())
-                        .saturating_add(record.data.len());
-                }
-            },
+    match counted(&file) {
+        Ok(Tally { records, bytes }) => Ok(println!(rt; "{name}: {records},{bytes}")?),
+        Err(fault) => {
+            let report = Report::from(fault);
+            Ok(println!(rt; "{name}: no,{report}")?)
         }
     }
-    Ok(println!(rt; "{name}: {records},{bytes}")?)
+}
+
+fn counted(file: &[u8]) -> Result<Tally, FileFault> {
+    let mut reader = RecordReader::new(file);
+    let mut records = 0usize;
+    let mut bytes = 0usize;
+    // Each record takes bytes of the file, so there are no more records than bytes. That a reader ends is not in its promise.
+    for _ in 0..file.len() {
+        let Some(record) = reader.next()? else {
+            break;
+        };
+        records = records.saturating_add(1);
+        bytes = bytes
+            .saturating_add(record.key.len())
+            .saturating_add(record.data.len());
+    }
+    Ok(Tally { records, bytes })
 }

@@ -1,5 +1,5 @@
 -- The lines that tell an outcome.
-use Rattle.std.proofs.Common.{◌≡◌, ℕ, ◌+◌, ◌≤◌, List, [], ◌∷◌, ◌++◌, length, Ok, Err, codes, decimal, Result, refl, ap, ◌∙◌, inl, inr, append_assoc, arith, length-append}
+use Rattle.std.proofs.Common.{◌≡◌, ℕ, ◌+◌, ◌≤◌, List, [], ◌∷◌, ◌++◌, length, Ok, Err, codes, decimal, Result, refl, ap, ◌∙◌, subst, inl, inr, append_assoc, arith, length-append}
 use Rattle.byte_lists.specs.Bytes.{laid}
 use Rattle.faults.specs.declared.report.Report.{Report}
 use Rattle.text.specs.declared.fault.TextFault.{TextFault}
@@ -8,7 +8,9 @@ use Rattle.text.specs.declared.tally.Tally.{Tally}
 use Rattle.text.specs.Reports.{text_report}
 use Rattle.text.specs.Wholes.{Tallies}
 use Rattle.text_writer.specs.Outcomes.{ok_line, no_line, Lays, Checks}
-use Rattle.text_writer.proofs.Laying.{Piece, upto_none, upto_piece}
+use Rattle.text_writer.specs.Sheets.{Adds}
+use Rattle.text_writer.specs.declared.sheet.Sheet.{Sheet}
+use Rattle.text_writer.proofs.Laying.{both}
 
 pub length_ok : (n b : ℕ) → length (ok_line n b) ≡ length (decimal n) + length (decimal b) + 5
 length_ok n b =
@@ -23,43 +25,43 @@ length_no r =
     let d = length-append (decimal r.place) (10 ∷ []) in
     omega arith
 
-ok_pieces : (n b : ℕ) → ((([] ++ codes "ok,") ++ (decimal n ++ (44 ∷ []))) ++ (decimal b ++ (10 ∷ []))) ≡ ok_line n b
+ok_pieces : (n b : ℕ) → (codes "ok," ++ (decimal n ++ (44 ∷ []))) ++ (decimal b ++ (10 ∷ [])) ≡ ok_line n b
 ok_pieces n b = simp append_assoc
 
-no_pieces : (r : Report) → (((([] ++ codes "no,") ++ (decimal r.number ++ (44 ∷ []))) ++ (decimal r.table ++ (44 ∷ []))) ++ (decimal r.place ++ (10 ∷ []))) ≡ no_line r
+no_pieces : (r : Report) → ((codes "no," ++ (decimal r.number ++ (44 ∷ []))) ++ (decimal r.table ++ (44 ∷ []))) ++ (decimal r.place ++ (10 ∷ [])) ≡ no_line r
 no_pieces r = simp append_assoc
 
-pub laid_ok : (n m room : ℕ) (b b₁ b₂ b₃ : List ℕ) (p₁ p₂ p₃ : ℕ) → length (ok_line n m) ≤ room → room ≤ length b
-    → Piece b b₁ 0 p₁ (codes "ok,") → Piece b₁ b₂ p₁ p₂ (decimal n ++ (44 ∷ [])) → Piece b₂ b₃ p₂ p₃ (decimal m ++ (10 ∷ [])) → Lays (ok_line n m) room b (Ok p₃) b₃
-laid_ok n m room b b₁ b₂ b₃ p₁ p₂ p₃ l k i₁ i₂ i₃ =
-    let z = length_ok n m in
-    let a = length-append (decimal n) (44 ∷ []) in
-    let c = length-append (decimal m) (10 ∷ []) in
-    let e₁ = i₁.place_is in
-    let e₂ = i₂.place_is in
-    let e₃ = i₃.place_is in
-    let u₁ = upto_piece b b b₁ 0 0 p₁ [] (codes "ok,") (upto_none b 0) i₁ (omega arith) in
-    let u₂ = upto_piece b b₁ b₂ 0 p₁ p₂ _ (decimal n ++ (44 ∷ [])) u₁ i₂ (omega arith) in
-    let u₃ = upto_piece b b₂ b₃ 0 p₂ p₃ _ (decimal m ++ (10 ∷ [])) u₂ i₃ (omega arith) in
-    (omega arith, omega arith, u₃.is ∙ ap (laid b 0) (ok_pieces n m))
+-- a sheet with the whole line
+whole : (x b : List ℕ) (s t : Sheet) → s.written ≡ 0 → s.buffer.now ≡ b → length x ≤ length b → Adds x s t → Lays x (length b) b (Ok t.written) t.buffer.now
+whole x b s t e f l a =
+    let w = a.written in
+    (omega arith, omega arith, a.after ∙ ap (λ (n : ℕ). laid s.buffer.now n x) e ∙ ap (λ (c : List ℕ). laid c 0 x) f)
 
-pub laid_no : (r : Report) (room : ℕ) (b b₁ b₂ b₃ b₄ : List ℕ) (p₁ p₂ p₃ p₄ : ℕ) → length (no_line r) ≤ room → room ≤ length b
-    → Piece b b₁ 0 p₁ (codes "no,") → Piece b₁ b₂ p₁ p₂ (decimal r.number ++ (44 ∷ [])) → Piece b₂ b₃ p₂ p₃ (decimal r.table ++ (44 ∷ []))
-    → Piece b₃ b₄ p₃ p₄ (decimal r.place ++ (10 ∷ [])) → Lays (no_line r) room b (Ok p₄) b₄
-laid_no r room b b₁ b₂ b₃ b₄ p₁ p₂ p₃ p₄ l k i₁ i₂ i₃ i₄ =
+pub ok_added : (n m : ℕ) (b : List ℕ) (s s₁ s₂ s₃ : Sheet) → s.written ≡ 0 → s.buffer.now ≡ b → length (ok_line n m) ≤ length b
+    → Adds (codes "ok,") s s₁ → Adds (decimal n ++ (44 ∷ [])) s₁ s₂ → Adds (decimal m ++ (10 ∷ [])) s₂ s₃
+    → Lays (ok_line n m) (length b) b (Ok s₃.written) s₃.buffer.now
+ok_added n m b s s₁ s₂ s₃ e f l a₁ a₂ a₃ =
+    let g = ap length f in
+    let z = length_ok n m in
+    let p = length-append (decimal n) (44 ∷ []) in
+    let q = length-append (decimal m) (10 ∷ []) in
+    let b₂ = both _ _ s s₁ s₂ (omega arith) a₁ a₂ in
+    let b₃ = both _ _ s s₂ s₃ (omega arith) b₂ a₃ in
+    whole (ok_line n m) b s s₃ e f l (subst (λ (x : List ℕ). Adds x s s₃) (ok_pieces n m) b₃)
+
+pub no_added : (r : Report) (b : List ℕ) (s s₁ s₂ s₃ s₄ : Sheet) → s.written ≡ 0 → s.buffer.now ≡ b → length (no_line r) ≤ length b
+    → Adds (codes "no,") s s₁ → Adds (decimal r.number ++ (44 ∷ [])) s₁ s₂ → Adds (decimal r.table ++ (44 ∷ [])) s₂ s₃ → Adds (decimal r.place ++ (10 ∷ [])) s₃ s₄
+    → Lays (no_line r) (length b) b (Ok s₄.written) s₄.buffer.now
+no_added r b s s₁ s₂ s₃ s₄ e f l a₁ a₂ a₃ a₄ =
+    let g = ap length f in
     let z = length_no r in
-    let a = length-append (decimal r.number) (44 ∷ []) in
-    let c = length-append (decimal r.table) (44 ∷ []) in
-    let d = length-append (decimal r.place) (10 ∷ []) in
-    let e₁ = i₁.place_is in
-    let e₂ = i₂.place_is in
-    let e₃ = i₃.place_is in
-    let e₄ = i₄.place_is in
-    let u₁ = upto_piece b b b₁ 0 0 p₁ [] (codes "no,") (upto_none b 0) i₁ (omega arith) in
-    let u₂ = upto_piece b b₁ b₂ 0 p₁ p₂ _ (decimal r.number ++ (44 ∷ [])) u₁ i₂ (omega arith) in
-    let u₃ = upto_piece b b₂ b₃ 0 p₂ p₃ _ (decimal r.table ++ (44 ∷ [])) u₂ i₃ (omega arith) in
-    let u₄ = upto_piece b b₃ b₄ 0 p₃ p₄ _ (decimal r.place ++ (10 ∷ [])) u₃ i₄ (omega arith) in
-    (omega arith, omega arith, u₄.is ∙ ap (laid b 0) (no_pieces r))
+    let p = length-append (decimal r.number) (44 ∷ []) in
+    let q = length-append (decimal r.table) (44 ∷ []) in
+    let o = length-append (decimal r.place) (10 ∷ []) in
+    let b₂ = both _ _ s s₁ s₂ (omega arith) a₁ a₂ in
+    let b₃ = both _ _ s s₂ s₃ (omega (arith, length-append {A = ℕ})) b₂ a₃ in
+    let b₄ = both _ _ s s₃ s₄ (omega (arith, length-append {A = ℕ})) b₃ a₄ in
+    whole (no_line r) b s s₄ e f l (subst (λ (x : List ℕ). Adds x s s₄) (no_pieces r) b₄)
 
 -- the line of a count
 pub told_ok : (t : List ℕ) (k : Tally) (room : ℕ) (b : List ℕ) (r : Result ℕ TextFault) (c : List ℕ) → Tallies t (Ok k) → Lays (ok_line k.records k.bytes) room b r c → Checks t room b r c

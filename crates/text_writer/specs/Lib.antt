@@ -1,2 +1,3 @@
 pub mod Writings
 pub mod Outcomes
+pub mod Sheets

@@ -3,5 +3,5 @@
 
 pub mod lines;
 pub mod outcome;
-pub mod put;
+pub mod sheet;
 pub mod writing;

@@ -1,13 +1,14 @@
 //! The text writer.
 
 ghost use Rattle.std.specs.Prelude.{◌≡◌, ◌+◌, ◌≤◌, map, length, Decides};
-ghost use Rattle.std.specs.List.{flat_map, AllByRecursion};
-ghost use Rattle.byte_lists.specs.Bytes.{laid};
-ghost use Rattle.text.specs.Texts.{Proper, line, text};
+ghost use Rattle.std.specs.List.{AllByRecursion};
+ghost use Rattle.text.specs.Texts.{Proper, text};
 ghost use Rattle.text.specs.Readings.{lent};
+ghost use Rattle.text_writer.specs.Sheets.{Adds};
 ghost use Rattle.text_writer.specs.Writings.{GivesTheTextBack, ReadsBack, Writes};
 
-use crate::lines::{line_len, put_end, put_line};
+use crate::lines::line_len;
+use crate::sheet::Sheet;
 use byte_lists::slices::know_bytes;
 use text::fault::TextFault;
 use text::lent::LentRecord;
@@ -19,40 +20,22 @@ pub fn write_text(records: &[LentRecord<'_>], buffer: &mut [u8]) -> Result<usize
     ensures list_back { ReadsBack (map lent records.now) result buffer.new }
 {
     let room = buffer.len();
-    write_within(records, buffer, room)
-}
-
-/// The same within the first bytes of a buffer, so many as are told.
-fn write_within(
-    records: &[LentRecord<'_>],
-    buffer: &mut [u8],
-    room: usize,
-) -> Result<usize, TextFault>
-    requires { room ≤ length buffer.old }
-    ensures writes { Writes (map lent records.now) room buffer.old result buffer.new }
-    ensures text_back { GivesTheTextBack (map lent records.now) room result buffer.new }
-    ensures list_back { ReadsBack (map lent records.now) result buffer.new }
-{
     if !all_proper(records) {
         return Err(TextFault::Long);
     }
     if !all_fit(records, room) {
         return Err(TextFault::Short(room));
     }
-    let at = put_lines(records, buffer);
-    Ok(put_end(buffer, at))
+    let mut sheet = Sheet::new(buffer);
+    sheet.put_text(records);
+    Ok(sheet.written)
 }
 
 /// Whether the lengths of all keys and data are words.
 fn all_proper(records: &[LentRecord<'_>]) -> bool
     ensures { Decides result (AllByRecursion Proper (map lent records.now)) }
 {
-    for one in records {
-        if !is_proper(*one) {
-            return false;
-        }
-    }
-    true
+    records.iter().all(|one| is_proper(*one))
 }
 
 fn is_proper(one: LentRecord<'_>) -> bool
@@ -68,6 +51,7 @@ fn all_fit(records: &[LentRecord<'_>], room: usize) -> bool
     requires { AllByRecursion Proper (map lent records.now) }
     ensures { Decides result (length (text (map lent records.now)) ≤ room) }
 {
+    // A loop is plainer here than a chain: the sum of the lengths may pass the largest number, and the length of a line asks that it be proper.
     let mut left = room;
     for one in records {
         let len = line_len(*one);
@@ -79,16 +63,16 @@ fn all_fit(records: &[LentRecord<'_>], room: usize) -> bool
     left > 0
 }
 
-/// Lays the lines of the records into the buffer; the place behind them.
-fn put_lines(records: &[LentRecord<'_>], buffer: &mut [u8]) -> usize
-    requires proper { AllByRecursion Proper (map lent records.now) }
-    requires fits { length (text (map lent records.now)) ≤ length buffer.old }
-    ensures place { result + 1 ≡ length (text (map lent records.now)) }
-    ensures after { buffer.new ≡ laid buffer.old 0 (flat_map line (map lent records.now)) }
-{
-    let mut at = 0;
-    for one in records {
-        at = put_line(buffer, at, *one);
+impl Sheet<'_> {
+    /// Writes the lines of the records, and the line feed that ends a text.
+    fn put_text(&mut self, records: &[LentRecord<'_>])
+        requires proper { AllByRecursion Proper (map lent records.now) }
+        requires fits { self.old.written + length (text (map lent records.now)) ≤ length self.old.buffer.now }
+        ensures { Adds (text (map lent records.now)) self.old self.new }
+    {
+        for one in records {
+            self.put_line(*one);
+        }
+        self.put(b"\n");
     }
-    at
 }

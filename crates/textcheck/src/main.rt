@@ -9,8 +9,6 @@ fn main(rt: HostRuntime) -> io::Result<()> {
     let mut text = Vec::new(rt.alloc());
     rt.stdin().read_to_end(&mut text)?;
     let mut line = [0u8; 46];
-    match check_text(&text, &mut line) {
-        Ok(n) => rt.stdout().write_all(&line[0..n]),
-        Err(_) => unreachable(),
-    }
+    let n = check_text(&text, &mut line).unwrap();
+    rt.stdout().write_all(&line[..n])
 }

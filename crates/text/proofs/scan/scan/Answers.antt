@@ -1,38 +1,49 @@
-use Rattle.std.proofs.Common.{◌≡◌, ◌+◌, ◌<◌, ◌≤◌, length, subst, arith, rules}
+use Rattle.std.proofs.Common.{◌≡◌, ℕ, ◌<◌, Some, None, Ok, Err, Option, MatchOption, subst, arith, rules}
 use Rattle.std.proofs.ByRecursion.{All-from_get_or}
+use Rattle.std.proofs.lemmas.Result.{err_from_is_err_and}
+use Rattle.std.specs.Option.{ok_or}
 use Rattle.byte_lists.specs.Bytes.{Bytes}
-use Rattle.text.specs.Lexing.{skip}
-use Rattle.text.proofs.Turns.{Seen, ended, stopped, turned, cut_off, spans, last}
+use Rattle.text.specs.declared.fault.TextFault.{TextFault}
+use Rattle.text.specs.declared.state.State.{State}
+use Rattle.text.specs.Lexing.{Grows, Dead}
+use Rattle.text.proofs.Turns.{ended, stopped, turned, cut_off, spans, last}
 use Rattle.text.proofs.scan.scan.Goals as goal
 
-pub returns-then-not-take : goal.returns-then-not-take
-returns-then-not-take c =
-    stopped c.loop-at.lexer.state c.args.text.now c.args.start c.loop-at.at c.loop-at.invariant c.loop-at-test.true c.if-not-take.ensures.0
+-- where no state is behind the byte, the byte is not taken
+died : (σ : State) (b : ℕ) (o : Option State) (e f : TextFault) → MatchOption o (Dead σ b) (λ s. Grows σ b s) → Err f ≡ ok_or o e → Dead σ b × (f ≡ e)
+died σ b None e f m i = (m, cc)
+died σ b (Some s) e f m i = absurd cc
+
+-- the state that is behind the byte grows from the one before
+grows : (σ : State) (b : ℕ) (o : Option State) (e : TextFault) (s : State) → MatchOption o (Dead σ b) (λ s. Grows σ b s) → Ok s ≡ ok_or o e → Grows σ b s
+grows σ b None e s m i = absurd cc
+grows σ b (Some r) e s m i = let k : r ≡ s = cc in subst (Grows σ b) k m
+
+pub returns-in_err-state : goal.returns-in_err-state
+returns-in_err-state c =
+    let d = died _ _ c.after.result _ _ c.after.ensures c.in_err-state.ensures.value in
+    let r = err_from_is_err_and c.from_residual.result c.from_residual.ensures.1 in
+    rw (r.1, r.2, d.1) (stopped _ _ _ _ c.loop-at.invariant c.loop-at-test.true d.0)
 
 pub returns-in-Record : goal.returns-in-Record
 returns-in-Record c =
-    spans c.loop-at.lexer.state c.take.new.self.state c.args.text.now c.args.start c.loop-at.at c.in-Record.key c.in-Record.«data»
-    c.loop-at.invariant c.loop-at-test.true c.if-not-take.ensures c.in-Record.is
+    let g = grows _ _ c.after.result _ _ c.after.ensures c.in_ok-state.ensures.value in
+    spans _ _ _ _ _ _ _ c.loop-at.invariant c.loop-at-test.true g c.in-Record.is
 
 pub returns-then-text-at : goal.returns-then-text-at
 returns-then-text-at c =
     let bytes : Bytes c.args.text.now = All-from_get_or (λ b. b < 256) c.args.text.now 0 (search rules) in
-    let l : length c.args.text.now < (c.loop-at.at + 1) + skip c.take.new.self.state = omega arith in
-    cut_off c.loop-at.lexer.state c.take.new.self.state c.args.text.now c.args.start c.loop-at.at c.loop-at.invariant c.loop-at-test.true
-    c.if-not-take.ensures bytes l
+    let g = grows _ _ c.after.result _ _ c.after.ensures c.in_ok-state.ensures.value in
+    cut_off _ _ _ _ _ c.loop-at.invariant c.loop-at-test.true g bytes (omega arith)
 
 pub loop-at-preserved : goal.loop-at-preserved
 loop-at-preserved c =
     let bytes : Bytes c.args.text.now = All-from_get_or (λ b. b < 256) c.args.text.now 0 (search rules) in
-    let l : (c.loop-at.at + 1) + skip c.take.new.self.state ≤ length c.args.text.now = omega arith in
-    let e : (c.loop-at.at + 1) + skip c.take.new.self.state ≡ (c.loop-at.at + 1) + c.skips-skip.result = omega arith in
-    subst (Seen c.take.new.self.state c.args.text.now c.args.start) e
-    (turned c.loop-at.lexer.state c.take.new.self.state c.args.text.now c.args.start c.loop-at.at c.loop-at.invariant c.loop-at-test.true
-    c.if-not-take.ensures bytes c.in_default.not-Record l)
+    let g = grows _ _ c.after.result _ _ c.after.ensures c.in_ok-state.ensures.value in
+    rw c.skips-skip.ensures (turned _ _ _ _ _ c.loop-at.invariant c.loop-at-test.true g bytes c.in_default.not-Record (omega arith))
 
 pub returns-in-End : goal.returns-in-End
-returns-in-End c = last c.args.text.now c.loop-at.lexer.state c.args.start c.loop-at.at c.loop-at.invariant c.in-End.is c.loop-at-test.false
+returns-in-End c = last _ _ _ _ c.loop-at.invariant c.in-End.is c.loop-at-test.false
 
 pub returns-in_default-state : goal.returns-in_default-state
-returns-in_default-state c =
-    ended c.loop-at.lexer.state c.args.text.now c.args.start c.loop-at.at c.loop-at.invariant c.loop-at-test.false c.in_default-state.not-End
+returns-in_default-state c = ended _ _ _ _ c.loop-at.invariant c.loop-at-test.false c.in_default-state.not-End

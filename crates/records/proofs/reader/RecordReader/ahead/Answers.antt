@@ -1,4 +1,4 @@
-use Rattle.std.proofs.Common.{◌≡◌, ℕ, ◌+◌, length, Ok, Option, subst, arith}
+use Rattle.std.proofs.Common.{◌≡◌, ℕ, ◌+◌, Ok, Option, subst, arith}
 use Rattle.cdb.specs.Records.{size}
 use Rattle.records.specs.declared.placed.PlacedRecord.{PlacedRecord}
 use Rattle.records.specs.Readings.{record_of}
@@ -12,6 +12,6 @@ loop-n-preserved c =
     let p = c.loop-n.place in
     let e = c.in-Some.record in
     let h = subst (λ (o : Option PlacedRecord). Found f p (Ok o)) c.in-Some.is c.in_ok-record_at.ensures in
-    let q : p + size (record_of e) ≡ e.data_place + length e.«data».now = omega (arith, h.1.1) in
+    let q : p + size (record_of e) ≡ c.end-place.result = omega (arith, h.1.1) in
     let w = one_more f c.args.self.now.place p (p + size (record_of e)) c.loop-n.n (record_of e) c.loop-n.invariant.0 h.0 in
-    (subst (λ (t : ℕ). Walked f c.args.self.now.place t (c.loop-n.n + 1)) q w, omega (arith, h.2, c.in_ok-end.ensures), omega arith)
+    (subst (λ (t : ℕ). Walked f c.args.self.now.place t (c.loop-n.n + 1)) q w, omega (arith, h.2, c.in_ok-end.ensures))

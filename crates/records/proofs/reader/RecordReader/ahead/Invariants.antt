@@ -1,9 +1,6 @@
-use Rattle.std.proofs.Common.{◌-◌, ◌≤◌}
+use Rattle.std.proofs.Common.{◌≤◌}
 use Rattle.records.proofs.Walks.{Walked}
 use Rattle.records.proofs.reader.RecordReader.ahead.Given as goal
 
 abbrev pub invariant-loop-n : goal.invariant-loop-n
-invariant-loop-n l = Walked l.file l.self.place l.place l.n × (l.place ≤ l.end) × (l.n ≤ l.most)
-
-abbrev pub decreases-loop-n : goal.decreases-loop-n
-decreases-loop-n l = l.most - l.n
+invariant-loop-n l = Walked l.file l.self.place l.place l.n × (l.place ≤ l.end)

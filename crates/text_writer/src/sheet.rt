@@ -1,0 +1,55 @@
+//! Inner: a lent buffer that is written from its start on. The callers prove that what they write fits.
+
+ghost use Rattle.std.specs.Prelude.{◌≡◌, ◌+◌, ◌^◌, ◌<◌, ◌≤◌, [], ◌∷◌, ◌++◌, length, decimal};
+ghost use Rattle.text_writer.specs.Sheets.{Adds};
+
+use byte_lists::slices::lay_over;
+use itoa::Buffer;
+
+/// A lent buffer, and how many bytes at its start are written.
+// Lent bytes with a count, since there is no heap, and the library's writer to a slice does not say which bytes it has written.
+#[derive(Drop)]
+pub(crate) struct Sheet<'a> {
+    pub(crate) buffer: &'a mut [u8],
+    pub(crate) written: usize,
+}
+
+impl<'a> Sheet<'a> {
+    /// A sheet on which nothing is written.
+    pub(crate) fn new(buffer: &'a mut [u8]) -> Sheet<'a>
+        ensures same_reference { result.buffer.ghost_name ≡ buffer.entry.ghost_name }
+        ensures blank { (result.buffer.now ≡ buffer.old) × (result.written ≡ 0) }
+    {
+        Sheet { buffer, written: 0 }
+    }
+
+    /// Writes bytes.
+    pub(crate) fn put(&mut self, bytes: &[u8])
+        requires { self.old.written + length bytes.now ≤ length self.old.buffer.now }
+        ensures { Adds bytes.now self.old self.new }
+    {
+        let buffer = &mut *self.buffer;
+        lay_over(buffer, self.written, bytes);
+        self.written += bytes.len();
+    }
+
+    /// Writes a number's digits, and a byte behind them.
+    pub(crate) fn put_number(&mut self, number: u64, end: u8)
+        requires { self.old.written + (length (decimal number) + 1) ≤ length self.old.buffer.now }
+        ensures { Adds (decimal number ++ (end ∷ [])) self.old self.new }
+    {
+        let mut digits = Buffer::new();
+        self.put(digits.format(number).as_bytes());
+        self.put(&[end]);
+    }
+}
+
+/// How many digits a number has.
+pub(crate) fn width(number: u64) -> usize
+    ensures is { result ≡ length (decimal number) }
+    ensures small { result ≤ 20 }
+    ensures word { number < 2 ^ 32 → result ≤ 10 }
+{
+    let mut digits = Buffer::new();
+    digits.format(number).len()
+}
