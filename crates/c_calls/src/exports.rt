@@ -1,8 +1,10 @@
-//! What the calls for C do; the crate `c_calls_c` exports them.
+//! What the calls for C do; the crate `c_calls_c` exports them. C is told by numbers, and through the places that it lends.
 
 ghost use Rattle.c_calls.specs.Exports.{AuditTold, FindTold};
 
 use crate::in_memory::{audit_in_memory, find_in_memory};
+use faults::report::Report;
+use lookup::cursors::Found;
 
 /// Audits a file in memory: 0 and three counts, or the number of the refusal with its table and place.
 pub fn constdb_audit(
@@ -24,7 +26,7 @@ pub fn constdb_audit(
             0
         }
         Err(fault) => {
-            let report = fault.report();
+            let report = Report::from(fault);
             *table = report.table;
             *place = report.place;
             report.number
@@ -45,16 +47,12 @@ pub fn constdb_find(
     ensures { FindTold memory.now len key.now n result place.old place.new data_len.old data_len.new }
 {
     match find_in_memory(memory, len, key, n) {
-        Ok(Some(found)) => {
-            *place = found.place;
-            *data_len = found.len;
+        Ok(found) => {
+            let data = found.unwrap_or(Found { place: 0, len: 0 });
+            *place = data.place;
+            *data_len = data.len;
             0
         }
-        Ok(None) => {
-            *place = 0;
-            *data_len = 0;
-            0
-        }
-        Err(fault) => fault.report().number,
+        Err(fault) => Report::from(fault).number,
     }
 }

@@ -10,6 +10,8 @@ use lookup::cursors::Found;
 use lookup_nth::nth::nth;
 use memory::reading::ReadMemory;
 
+// Memory and length stay two parameters, as C hands them over.
+
 /// Audits the file of `len` bytes that memory begins with; 11 where it does not lie in whole sectors of the memory.
 pub fn audit_in_memory(memory: &[u8], len: u32) -> Result<Counts, FileFault>
     ensures { AuditsMemory memory.now len result }

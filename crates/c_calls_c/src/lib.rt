@@ -1,6 +1,8 @@
 //! The calls for C. bench/constdb.h says what a C program may rely on.
 #![tactic(auto)]
 
+// A crate is a library or a static library, and `text_vectors` uses the calls as a library: so both have these contracts.
+
 ghost use Rattle.c_calls.specs.Exports.{AuditTold, FindTold};
 
 use c_calls::exports;

@@ -1,4 +1,4 @@
-pub mod Around
+pub mod Kept
 pub mod Pieces
 pub mod Placed
 pub mod One

@@ -1,15 +1,16 @@
 -- Comparing piece by piece.
-use Rattle.std.proofs.Common.{◌≡◌, ℕ, suc, ◌+◌, ◌-◌, ◌*◌, ◌%◌, ◌<◌, ◌≤◌, Bool, true, false, ◌⊎◌, List, [], ◌∷◌, length, get_or, take, drop, Ok, Decides, sym, refl, ap, ◌∙◌, subst, inl, inr, ⊎_elim, add-zero, arith, length-drop, w8, Fits}
+use Rattle.std.proofs.Common.{◌≡◌, ℕ, suc, ◌+◌, ◌-◌, ◌*◌, ◌/◌, ◌%◌, ◌<◌, ◌≤◌, Bool, true, false, ◌⊎◌, List, [], ◌∷◌, length, get_or, take, drop, Ok, Decides, sym, refl, ap, ◌∙◌, subst, inl, inr, ⊎_elim, add-zero, arith, length-drop, w8, Fits}
 use Rattle.std.proofs.lemmas.List.{get_or-take, get_or-drop, length-take, same_lists, get_or_default}
 use Rattle.std.proofs.lemmas.Bool.{cases_lt, cases_eq, false≢true}
 use Rattle.byte_lists.specs.Bytes.{part, word_at}
-use Rattle.byte_lists.proofs.Parts.{get_d_part}
-use Rattle.device.specs.Meanings.{Meaning}
+use Rattle.byte_lists.proofs.Parts.{get_d_part, part_in}
+use Rattle.faults.specs.declared.device.DeviceFault.{DeviceFault}
+use Rattle.device.specs.Meanings.{Meaning, refuses}
 use Rattle.file.specs.declared.extents.Extent.{Extent}
 use Rattle.file.specs.Ranges.{Reads, AllRead}
 use Rattle.file.specs.Extents.{file}
 use Rattle.file.proofs.Turns.{piece_readable}
-use Rattle.lookup.specs.Keys.{Agrees, Differs, Compared}
+use Rattle.lookup.specs.Keys.{Agrees, Differs, Unread, Compared}
 
 -- two lists of one length are equal, or differ in a place
 differ_at : (xs ys : List ℕ) → length xs ≡ length ys → (xs ≡ ys) ⊎ ((k : ℕ) × (k < length ys) × (get_or xs k 0 ≡ get_or ys k 0 → ⊥))
@@ -79,45 +80,68 @@ module _ (m : Meaning) (e : Extent) (p : ℕ) where
         (λ s. record { k = s.0; within = s.1; reads = all (s.0 + 1) (omega (arith, s.1)); differs = λ q. s.2 (sym (at s.0 s.1) ∙ q) })
         (differ_at piece want long)
 
-  -- the piece of the key that is compared in a turn
-  module _ (key : List ℕ) (k count : ℕ) (fits : k + count ≤ length key) (agrees : Agrees m e p key k) where
-    abbrev piece : List ℕ
-    piece = take ((k + count) - k) (drop k key)
+  -- the same, where the piece was read at its place on the device
+  pub compared_piece : (want piece : List ℕ) (place : ℕ) → place ≡ e.start + p → p + length want ≤ e.len → place % 512 + length want ≤ 512 → Reads m place
+      → piece ≡ part m.bytes place (length want) → length piece ≡ length want → (r : Bool) → Decides r (piece ≡ want) → Compared m e p want (Ok r)
+  compared_piece want piece place at inside sector reads read long =
+      compared_here want piece (subst (Reads m) at reads) (subst (λ (k : ℕ). k % 512 + length want ≤ 512) at sector)
+      (read ∙ ap (λ (k : ℕ). part m.bytes k (length want)) at ∙ sym (part_in m.bytes e.start e.len p (length want) inside)) long
 
-    long : length piece ≡ count
+  -- the piece of the key that is compared in a turn
+  module _ (key : List ℕ) (from to : ℕ) (some : from < to) (fits : to ≤ length key) (agrees : Agrees m e p key from) where
+    abbrev piece : List ℕ
+    piece = take (to - from) (drop from key)
+
+    long : length piece ≡ to - from
     long = simp (length-take, length-drop) (omega arith)
 
-    get_d_piece : (j : ℕ) → j < count → get_or piece j 0 ≡ get_or key (k + j) 0
-    get_d_piece j l = get_or-take ((k + count) - k) (drop k key) j 0 (omega arith) ∙ get_or-drop k key j 0
+    get_d_piece : (j : ℕ) → j < to - from → get_or piece j 0 ≡ get_or key (from + j) 0
+    get_d_piece j l = get_or-take (to - from) (drop from key) j 0 l ∙ get_or-drop from key j 0
 
-    all_more : (n : ℕ) → AllRead m (e.start + (p + k)) n → AllRead m (e.start + p) (k + n)
+    all_more : (n : ℕ) → AllRead m (e.start + (p + from)) n → AllRead m (e.start + p) (from + n)
     all_more n b = λ j l.
         ⊎_elim
-        (λ (c : j < k). agrees.reads j c)
-        (λ (c : k ≤ j). let z : e.start + (p + k) + (j - k) ≡ e.start + p + j = omega arith in subst (Reads m) z (b (j - k) (omega arith)))
-        (cases_lt j k)
+        (λ (c : j < from). agrees.reads j c)
+        (λ (c : from ≤ j). let z : e.start + (p + from) + (j - from) ≡ e.start + p + j = omega arith in subst (Reads m) z (b (j - from) (omega arith)))
+        (cases_lt j from)
 
-    pub agrees_more : Agrees m e (p + k) piece (length piece) → Agrees m e p key (k + count)
-    agrees_more b =
+    agrees_to : (n : ℕ) → n ≤ to - from → Agrees m e (p + from) piece n → Agrees m e p key (from + n)
+    agrees_to n h b =
         record {
-          reads = all_more count (λ j c. b.reads j (omega (arith, long)));
+          reads = all_more n b.reads;
           same = λ j c.
               ⊎_elim
-              (λ (d : j < k). agrees.same j d)
-              (λ (d : k ≤ j).
-              let z : p + k + (j - k) ≡ p + j = omega arith in
-              let y : k + (j - k) ≡ j = omega arith in
-              ap (λ (i : ℕ). get_or (file m e) i 0) (sym z) ∙ b.same (j - k) (omega (arith, long)) ∙ get_d_piece (j - k) (omega arith) ∙ ap (λ (i : ℕ). get_or key i 0) y)
-              (cases_lt j k);
+              (λ (d : j < from). agrees.same j d)
+              (λ (d : from ≤ j).
+              let z : p + from + (j - from) ≡ p + j = omega arith in
+              let y : from + (j - from) ≡ j = omega arith in
+              ap (λ (i : ℕ). get_or (file m e) i 0) (sym z) ∙ b.same (j - from) (omega arith) ∙ get_d_piece (j - from) (omega arith) ∙ ap (λ (i : ℕ). get_or key i 0) y)
+              (cases_lt j from);
         }
 
-    pub differs_later : Differs m e (p + k) piece → Differs m e p key
+    pub agrees_more : Agrees m e (p + from) piece (length piece) → Agrees m e p key to
+    agrees_more b =
+        let z : from + length piece ≡ to = omega (arith, long) in
+        subst (λ (n : ℕ). Agrees m e p key n) z (agrees_to (length piece) (omega (arith, long)) b)
+
+    pub differs_later : Differs m e (p + from) piece → Differs m e p key
     differs_later b =
-        let w : b.k < count = omega (arith, b.within, long) in
-        let z : p + k + b.k ≡ p + (k + b.k) = omega arith in
+        let w : b.k < to - from = omega (arith, b.within, long) in
+        let z : p + from + b.k ≡ p + (from + b.k) = omega arith in
         record {
-          k = k + b.k;
+          k = from + b.k;
           within = omega arith;
           reads = λ j c. all_more (b.k + 1) b.reads j (omega arith);
           differs = λ q. b.differs (ap (λ (i : ℕ). get_or (file m e) i 0) z ∙ q ∙ sym (get_d_piece b.k w));
+        }
+
+    pub unread_later : (f : DeviceFault) → Unread m e (p + from) piece f → Unread m e p key f
+    unread_later f b =
+        let w : b.k < to - from = omega (arith, b.within, long) in
+        let z : e.start + (p + from) + b.k ≡ e.start + p + (from + b.k) = omega arith in
+        record {
+          k = from + b.k;
+          within = omega arith;
+          before = agrees_to b.k (omega arith) b.before;
+          refused = ap (λ (i : ℕ). refuses m (i / 512)) (sym z) ∙ b.refused;
         }

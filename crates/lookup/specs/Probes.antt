@@ -8,6 +8,7 @@ use Rattle.faults.specs.declared.file.FileFault.TheVariants.{Past, Device}
 use Rattle.faults.specs.Reports.{located}
 use Rattle.device.specs.Meanings.{Meaning}
 use Rattle.file.specs.declared.extents.Extent.{Extent}
+use Rattle.file.specs.declared.words.Words.{Words}
 use Rattle.file.specs.Ranges.{AllRead, FirstBad}
 use Rattle.file.specs.Extents.{file}
 use Rattle.lookup.specs.declared.cursors.Cursor.{Cursor}
@@ -19,6 +20,16 @@ use Rattle.lookup.specs.Keys.{Agrees, Differs, Unread}
 -- the two words at place p lie in the file, and can be read
 abbrev pub Legible : Meaning → Extent → ℕ → Type 0
 Legible m e p = (p + 8 ≤ e.len) × AllRead m (e.start + p) 8
+
+-- or a lookup in table t is refused with f there
+pub data Illegible (m : Meaning) (e : Extent) (t p : ℕ) : FileFault → Type 0 where
+  past : e.len < p + 8 → Illegible m e t p (Past t p)
+  bad : {f : DeviceFault} → p + 8 ≤ e.len → FirstBad m (e.start + p) 8 f → Illegible m e t p (Device (located f t p))
+
+-- what reading them answers
+abbrev pub WordsProbe : Meaning → Extent → ℕ → ℕ → Result Words FileFault → Type 0
+WordsProbe m e t p (Ok w) = Legible m e p × (w.first ≡ word_at (file m e) p) × (w.second ≡ word_at (file m e) (p + 4))
+WordsProbe m e t p (Err f) = Illegible m e t p f
 
 -- the two words of the record at place p of a file
 abbrev pub key_length : List ℕ → ℕ → ℕ

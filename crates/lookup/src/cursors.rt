@@ -20,6 +20,7 @@ pub struct Cursor {
 }
 
 /// What a slot holds for a key.
+// Three names say more than an `Option` in an `Option`.
 #[derive(Clone, Copy)]
 pub enum Probe {
     /// Nothing.

@@ -3,10 +3,8 @@
 
 pub mod advancing;
 pub mod calls;
-mod comparing;
 pub mod cursors;
-mod probing;
+pub mod keys;
+mod searching;
 pub mod starting;
 mod taking;
-pub mod walking;
-mod words;

@@ -17,12 +17,10 @@ pub(crate) fn take_part<D: Device>(
     end: u64,
     buffer: &mut [u8],
 ) -> Result<(), FileFault>
-    requires sound { D.Device.sound d.old }
     requires bound { from < 2 ^ 33 }
     ensures answer { Takes (D.Device.meaning d.old) extent from end buffer.old result buffer.new }
     ensures only { OnlyTakes (D.Device.meaning d.old) extent from end buffer.old result buffer.new }
     ensures same { D.Device.meaning d.new ≡ D.Device.meaning d.old }
-    ensures sound { D.Device.sound d.new }
 {
     if !is_on(d, extent) {
         return Err(FileFault::Range);

@@ -1,11 +1,12 @@
 -- A byte that flips outside a file leaves the file.
-use Rattle.std.proofs.Common.{◌≡◌, ℕ, ◌+◌, ◌-◌, ◌*◌, ◌/◌, ◌<◌, ◌≤◌, min, true, ltb, ◌⊎◌, List, length, get_or, set, sym, refl, ap, ◌∙◌, subst, inl, inr, ⊎_elim, arith}
-use Rattle.std.proofs.lemmas.List.{length-set, get_or-set_other, get_or_default, same_lists}
+use Rattle.std.proofs.Common.{◌≡◌, ℕ, ◌+◌, ◌-◌, ◌*◌, ◌/◌, ◌<◌, ◌≤◌, min, true, ltb, ◌⊎◌, List, length, get_or, take, set, sym, refl, ap, ◌∙◌, subst, inl, inr, ⊎_elim, arith}
+use Rattle.std.proofs.Math.Seq.{take-set-lt}
+use Rattle.std.proofs.lemmas.List.{length-set, length-take-le, take-set-le, get_or-set_other, get_or_default, same_lists}
 use Rattle.std.proofs.ByRecursion.{All-set}
 use Rattle.std.proofs.lemmas.Bool.{cases_lt, lt-ltb, cond-true, cond-false, le-ltb}
 use Rattle.byte_lists.specs.Bytes.{Bytes, part}
 use Rattle.byte_lists.proofs.Parts.{get_d_part, length_part, part_of_front}
-use Rattle.device.specs.Meanings.{endless}
+use Rattle.device.specs.Meanings.{endless, good, Whole}
 use Rattle.memory.specs.Memories.{memory, fitting}
 use Rattle.file.specs.declared.extents.Extent.{Extent}
 use Rattle.lookup_runs.specs.Runs.{Keeps}
@@ -42,8 +43,25 @@ outside e =
 pub keeps_flipped : (xs : List ℕ) (e : Extent) → Keeps e (memory xs true endless) (memory (flipped xs (beside e)) true endless)
 keeps_flipped xs e = keeps_set xs (beside e) (255 - get_or xs (beside e) 0) e (outside e)
 
-pub flipped_bytes : (xs : List ℕ) (p : ℕ) → Bytes xs → Bytes (flipped xs p)
-flipped_bytes xs p b = All-set (λ n. n < 256) xs p (255 - get_or xs p 0) (omega arith) b
+-- a front stays bytes where one is set
+front_bytes : (xs : List ℕ) (p v n : ℕ) → v < 256 → Bytes (take n xs) → Bytes (take n (set xs p v))
+front_bytes xs p v n l b =
+    ⊎_elim
+    (λ (h : p < n). subst Bytes (sym (take-set-lt n xs p v h)) (All-set (λ k. k < 256) (take n xs) p v l b))
+    (λ (h : n ≤ p). subst Bytes (sym (take-set-le n xs p v h)) b)
+    (cases_lt p n)
 
-pub flipped_fitting : (xs : List ℕ) (p : ℕ) → fitting (flipped xs p) ≡ fitting xs
-flipped_fitting xs p = ap (λ (n : ℕ). min (n / 512) 8388607) (length-set xs p (255 - get_or xs p 0))
+-- memory in which a byte is set has the sectors that it had, and is whole
+pub set_fitting : (xs : List ℕ) (p v : ℕ) → fitting xs ≡ fitting (set xs p v)
+set_fitting xs p v = ap (λ (n : ℕ). min (n / 512) 8388607) (sym (length-set xs p v))
+
+pub set_whole : (xs : List ℕ) (p v : ℕ) → v < 256 → Whole (memory xs true endless) → Whole (memory (set xs p v) true endless)
+set_whole xs p v l w =
+    let n : ℕ = fitting xs in
+    subst (λ (k : ℕ). Whole (record { sectors = k; bytes = take (512 * k) (set xs p v); condition = λ _. good; power = true; left = endless })) (set_fitting xs p v)
+    (record {
+      few = w.few;
+      long = length-take-le (512 * n) (set xs p v) (omega (arith, length-set xs p v));
+      bytes = front_bytes xs p v (512 * n) l w.bytes;
+      on = w.on;
+    })

@@ -1,8 +1,9 @@
 //! Memory that changes between the calls: a byte outside the file is flipped.
 
 ghost use Rattle.std.specs.Prelude.{◌≡◌, ℕ, ◌+◌, ◌-◌, ◌*◌, ◌/◌, ◌%◌, ◌^◌, ◌<◌, ◌≤◌, true, length};
-ghost use Rattle.byte_lists.specs.Bytes.{Bytes, part};
-ghost use Rattle.device.specs.Meanings.{endless};
+ghost use Rattle.byte_lists.specs.Bytes.{part, Bytes};
+ghost use Rattle.device.specs.Meanings.{endless, Whole};
+ghost use Rattle.std.proofs.Props.{props};
 ghost use Rattle.memory.specs.Memories.{memory, fitting};
 ghost use Rattle.lookup_changing.specs.Flips.{beside, flipped};
 
@@ -24,21 +25,25 @@ fn place_beside(extent: Extent) -> usize
 }
 
 /// Memory whose first byte flips, if the file does not begin with it, or else the byte behind the file.
+// A layer over memory would be no plainer: it could flip a byte only by a write, which may be refused, and `change` is not.
 #[derive(Drop)]
 pub struct FlippingMemory<'a> {
     bytes: &'a mut [u8],
     sectors: u32,
+    ghost count: { sectors ≡ fitting bytes.now },
+    ghost whole: { Whole (memory bytes.now true endless) } by { Prim.hlevel props },
 }
 
 impl<'a> FlippingMemory<'a> {
+    ghost use Rattle.lookup_changing.specs.contracts.flipping.FlippingMemoryDevice.TheImpl.{ghosts as as_device};
+
     /// A device on `bytes`: whole sectors only, all good, with power.
     pub fn new(bytes: &'a mut [u8]) -> FlippingMemory<'a>
-        ensures meaning { memory result.bytes.now true endless ≡ memory bytes.old true endless }
-        ensures sound { (result.sectors ≡ fitting result.bytes.now) × Bytes result.bytes.now }
+        ensures meaning { as_device.meaning result ≡ memory bytes.old true endless }
+        ensures bytes { Bytes result.bytes.now }
     {
         know_bytes(bytes);
-        let fit = bytes.len() / 512;
-        let sectors = if fit < 8388607 { fit as u32 } else { 8388607 };
+        let sectors = (bytes.len() / 512).min(8388607) as u32;
         FlippingMemory { bytes, sectors }
     }
 
@@ -65,7 +70,7 @@ impl<'a> FlippingMemory<'a> {
 impl<'a> Device for FlippingMemory<'a> {
     ghost meaning = { λ d. memory d.bytes.now true endless };
 
-    ghost sound = { λ d. (d.sectors ≡ fitting d.bytes.now) × Bytes d.bytes.now };
+    ghost whole = { λ d. d.whole };
 
     fn size(&self) -> u32 {
         self.sectors

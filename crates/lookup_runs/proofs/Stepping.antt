@@ -15,20 +15,16 @@ use Rattle.lookup_runs.specs.declared.calls.Answer.TheVariants as answer
 use Rattle.lookup_runs.specs.Runs as runs
 use Rattle.lookup_runs.specs.Runs.{Keeps, Event, fetched, told, log, found_in, found_by, FetchMade, Run, more, RanTo, Stepped}
 
--- which data an answer tells of, among the first n
-pub found_past : (ans : List Answer) (n k : ℕ) → n ≤ k → found_by (take n ans) k ≡ None
-found_past [] zero k l = refl
-found_past [] (suc n) k l = refl
-found_past (a ∷ ans) zero k l = refl
-found_past (a ∷ ans) (suc n) zero l = absurd (omega arith)
-found_past (a ∷ ans) (suc n) (suc k) l = found_past ans n k (omega arith)
+-- the data that the answer number n tells of, if there is one
+pub found_past : (ans : List Answer) (n : ℕ) → length ans ≤ n → found_by ans n ≡ None
+found_past [] n l = refl
+found_past (a ∷ ans) zero l = absurd (omega arith)
+found_past (a ∷ ans) (suc n) l = found_past ans n (omega arith)
 
-pub found_at : (ans : List Answer) (n k : ℕ) (d : Answer) → k < n → n ≤ length ans → found_by (take n ans) k ≡ found_in (get_or ans k d)
-found_at [] zero k d l m = absurd (omega arith)
-found_at [] (suc n) k d l m = absurd (omega arith)
-found_at (a ∷ ans) zero k d l m = absurd (omega arith)
-found_at (a ∷ ans) (suc n) zero d l m = refl
-found_at (a ∷ ans) (suc n) (suc k) d l m = found_at ans n k d (omega arith) (omega arith)
+pub found_at : (ans : List Answer) (n : ℕ) (d : Answer) → n < length ans → found_by ans n ≡ found_in (get_or ans n d)
+found_at [] n d l = absurd (omega arith)
+found_at (a ∷ ans) zero d l = refl
+found_at (a ∷ ans) (suc n) d l = found_at ans n d (omega arith)
 
 -- a fetch into a part of the buffer
 pub fetched_into : (m : Meaning) (e : Extent) (ans : List Answer) (b : List ℕ) (w : Wanted) (x : Found) (r : Result (Unit {0}) FileFault) (new : List ℕ) (end : ℕ)

@@ -1,5 +1,7 @@
 //! The calls of a run and their answers.
 
+ghost use Rattle.std.specs.Prelude.{◌≡◌};
+
 use faults::file::FileFault;
 use lookup::cursors::Found;
 
@@ -14,6 +16,7 @@ pub struct Wanted {
 }
 
 /// A call of a run.
+// Calls are data, so that the law can speak of every list of them.
 #[derive(Clone, Copy)]
 pub enum Call<'a> {
     /// A next with this key. It is not made with a key of equal hash that is not the key of the run.
@@ -29,6 +32,20 @@ pub enum Answer {
     Fetch(Result<(), FileFault>),
     /// The call was not made.
     Skipped,
+}
+
+impl Answer {
+    ghost use Rattle.lookup_runs.specs.Runs.{found_in};
+
+    /// The data that it tells of.
+    pub(crate) fn found(self) -> Option<Found>
+        ensures { result ≡ found_in self }
+    {
+        match self {
+            Answer::Next(Ok(found)) => found,
+            Answer::Next(Err(_)) | Answer::Fetch(_) | Answer::Skipped => None,
+        }
+    }
 }
 
 /// Why a run made no calls.

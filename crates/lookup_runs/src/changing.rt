@@ -9,7 +9,5 @@ use file::extents::Extent;
 pub trait Changing: Device {
     /// Changes the device, and leaves the file of the extent as it is, if it can be read.
     fn change(&mut self, extent: Extent)
-        requires { Self.Device.sound self.old }
-        ensures keeps { Keeps extent (Self.Device.meaning self.old) (Self.Device.meaning self.new) }
-        ensures sound { Self.Device.sound self.new };
+        ensures keeps { Keeps extent (Self.Device.meaning self.old) (Self.Device.meaning self.new) };
 }

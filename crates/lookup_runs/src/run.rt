@@ -12,6 +12,7 @@ use lookup::calls::start;
 use lookup::cursors::Cursor;
 
 /// The calls of a run, from a cursor on.
+// Answers lie in a list of their own: calls are lent shared, and there is no heap for the answers.
 fn run_from<D: Changing>(
     d: &mut D,
     extent: Extent,
@@ -21,44 +22,14 @@ fn run_from<D: Changing>(
     buffer: &mut [u8],
     answers: &mut [Answer],
 )
-    requires sound { D.Device.sound d.old }
     requires long { length answers.old ≡ length calls.now }
     ensures ran { RanLast (D.Device.meaning d.old) extent key.now cursor buffer.old calls.now answers.new buffer.new }
     ensures kept { Keeps extent (D.Device.meaning d.old) (D.Device.meaning d.new) }
-    ensures sound { D.Device.sound d.new }
 {
     let mut at = cursor;
-    for i in 0..calls.len() {
+    for (i, call) in calls.iter().enumerate() {
         d.change(extent);
-        answers[i] = step(d, extent, key, &mut at, calls[i], answers, i, buffer);
-    }
-}
-
-/// The start of a run, and its calls.
-fn start_and_run<D: Changing>(
-    d: &mut D,
-    extent: Extent,
-    key: &[u8],
-    calls: &[Call<'_>],
-    buffer: &mut [u8],
-    answers: &mut [Answer],
-) -> Result<(), RunFault>
-    requires { D.Device.sound d.old }
-    ensures runs { Runs (D.Device.meaning d.old) extent key.now calls.now answers.old buffer.old result answers.new buffer.new }
-    ensures law { LookupsGiveRecords (D.Device.meaning d.old) extent key.now calls.now answers.old buffer.old result answers.new buffer.new }
-    ensures kept { Keeps extent (D.Device.meaning d.old) (D.Device.meaning d.new) }
-    ensures refused { OnErr result (D.Device.meaning d.new ≡ D.Device.meaning d.old) }
-    ensures sound { D.Device.sound d.new }
-{
-    if answers.len() != calls.len() {
-        return Err(RunFault::Room);
-    }
-    match start(d, extent, key) {
-        Ok(cursor) => {
-            run_from(d, extent, key, cursor, calls, buffer, answers);
-            Ok(())
-        }
-        Err(fault) => Err(RunFault::Start(fault)),
+        answers[i] = step(d, extent, key, &mut at, *call, &answers[..i], buffer);
     }
 }
 
@@ -72,12 +43,15 @@ pub fn run<D: Changing>(
     buffer: &mut [u8],
     answers: &mut [Answer],
 ) -> Result<(), RunFault>
-    requires { D.Device.sound d.old }
     ensures runs { Runs (D.Device.meaning d.old) extent key.now calls.now answers.old buffer.old result answers.new buffer.new }
     ensures law { LookupsGiveRecords (D.Device.meaning d.old) extent key.now calls.now answers.old buffer.old result answers.new buffer.new }
     ensures kept { Keeps extent (D.Device.meaning d.old) (D.Device.meaning d.new) }
     ensures refused { OnErr result (D.Device.meaning d.new ≡ D.Device.meaning d.old) }
-    ensures sound { D.Device.sound d.new }
 {
-    start_and_run(d, extent, key, calls, buffer, answers)
+    if answers.len() != calls.len() {
+        return Err(RunFault::Room);
+    }
+    let cursor = start(d, extent, key).map_err(RunFault::Start)?;
+    run_from(d, extent, key, cursor, calls, buffer, answers);
+    Ok(())
 }

@@ -1,6 +1,8 @@
 //! Lookups on worked files, on damaged ones and beside bad sectors.
 #![tactic(auto)]
 
+ghost use Rattle.std.specs.Prelude.{◌+◌, ◌*◌, ◌^◌, ◌<◌, ◌≤◌};
+
 #[cfg(test)]
 mod tests {
     use device::device::Device;
@@ -13,36 +15,29 @@ mod tests {
     use memory::reading::ReadMemory;
     use std::test::Fail;
 
-    // What a next gives, told by the place of the data: 0 for none.
-    fn place_of<D: Device>(d: &mut D, cursor: &mut Cursor, key: &[u8]) -> Result<u32, FileFault>
-        requires { D.Device.sound d.old }
-        ensures { D.Device.sound d.new }
-    {
-        match next(d, cursor, key)? {
-            Some(found) => Ok(found.place),
-            None => Ok(0),
-        }
+    // The place of the data that a next gives, if it gives any.
+    fn place_of<D: Device>(
+        d: &mut D,
+        cursor: &mut Cursor,
+        key: &[u8],
+    ) -> Result<Option<u32>, FileFault> {
+        Ok(next(d, cursor, key)?.map(|found| found.place))
     }
 
-    fn put(file: &mut [u8; 3072], place: usize, n: u32) {
-        if place < 3000 {
-            file[place] = (n % 256) as u8;
-            file[place + 1] = (n / 256 % 256) as u8;
-            file[place + 2] = (n / 65536 % 256) as u8;
-            file[place + 3] = (n / 16777216) as u8;
-        }
+    fn put(file: &mut [u8; 3072], place: usize, n: u32)
+        requires { place + 4 ≤ 3072 }
+    {
+        file[place..place + 4].copy_from_slice(&n.to_le_bytes());
     }
 
     // A header whose only table with slots is `table`, at `position`.
-    fn header(file: &mut [u8; 3072], table: u32, position: u32, slots: u32) {
-        for t in 0..256u32 {
-            let end = if t <= table {
-                position
-            } else {
-                position.wrapping_add(8 * (slots % 256))
-            };
-            put(file, 8 * t as usize, end);
-            put(file, 8 * t as usize + 4, if t == table { slots } else { 0 });
+    fn header(file: &mut [u8; 3072], table: usize, position: u32, slots: u32)
+        requires { position + 8 * slots < 2 ^ 32 }
+    {
+        let end = position + 8 * slots;
+        for t in 0..256 {
+            put(file, 8 * t, if t <= table { position } else { end });
+            put(file, 8 * t + 4, if t == table { slots } else { 0 });
         }
     }
 
@@ -71,10 +66,10 @@ mod tests {
         let mut d = ReadMemory::new(&file);
         let extent = Extent::new(0, 2100)?;
         let mut cursor = start(&mut d, extent, b"a")?;
-        assert_eq!(rt; place_of(&mut d, &mut cursor, b"a")?, 2057);
-        assert_eq!(rt; place_of(&mut d, &mut cursor, b"a")?, 2067);
-        assert_eq!(rt; place_of(&mut d, &mut cursor, b"a")?, 0);
-        assert_eq!(rt; place_of(&mut d, &mut cursor, b"a")?, 0);
+        assert_eq!(rt; place_of(&mut d, &mut cursor, b"a")?, Some(2057));
+        assert_eq!(rt; place_of(&mut d, &mut cursor, b"a")?, Some(2067));
+        assert_eq!(rt; place_of(&mut d, &mut cursor, b"a")?, None);
+        assert_eq!(rt; place_of(&mut d, &mut cursor, b"a")?, None);
         Ok(())
     }
 
@@ -106,7 +101,7 @@ mod tests {
         let mut d = ReadMemory::new(&file);
         let extent = Extent::new(0, 2100)?;
         let mut cursor = start(&mut d, extent, b"")?;
-        assert_eq!(rt; place_of(&mut d, &mut cursor, b"")?, 0);
+        assert_eq!(rt; place_of(&mut d, &mut cursor, b"")?, None);
         Ok(())
     }
 
@@ -121,7 +116,7 @@ mod tests {
             Err(FileFault::OtherKey)
         );
         assert_eq!(rt; cursor.probed, 0);
-        assert_eq!(rt; place_of(&mut d, &mut cursor, b"a")?, 2057);
+        assert_eq!(rt; place_of(&mut d, &mut cursor, b"a")?, Some(2057));
         Ok(())
     }
 
@@ -140,9 +135,9 @@ mod tests {
         let mut d = ReadMemory::new(&file);
         let extent = Extent::new(0, 2154)?;
         let mut cursor = start(&mut d, extent, b"")?;
-        assert_eq!(rt; place_of(&mut d, &mut cursor, b"")?, 2056);
-        assert_eq!(rt; place_of(&mut d, &mut cursor, b"")?, 2065);
-        assert_eq!(rt; place_of(&mut d, &mut cursor, b"")?, 0);
+        assert_eq!(rt; place_of(&mut d, &mut cursor, b"")?, Some(2056));
+        assert_eq!(rt; place_of(&mut d, &mut cursor, b"")?, Some(2065));
+        assert_eq!(rt; place_of(&mut d, &mut cursor, b"")?, None);
         Ok(())
     }
 
@@ -179,14 +174,13 @@ mod tests {
     fn refuses_a_short_file_and_one_that_is_not_there(rt: HostRuntime) -> Result<(), Fail> {
         let file = twice_a();
         let mut d = ReadMemory::new(&file);
-        let Err(short) = start(&mut d, Extent::new(0, 2047)?, b"a") else {
-            return Err(Fail::new("short"));
-        };
-        assert_eq!(rt; short, FileFault::Short(2047));
-        let Err(outside) = start(&mut d, Extent::new(1000, 2100)?, b"a") else {
-            return Err(Fail::new("outside"));
-        };
-        assert_eq!(rt; outside, FileFault::Range);
+        let short = Extent::new(0, 2047)?;
+        assert_eq!(rt;
+            start(&mut d, short, b"a").err(),
+            Some(FileFault::Short(2047))
+        );
+        let outside = Extent::new(1000, 2100)?;
+        assert_eq!(rt; start(&mut d, outside, b"a").err(), Some(FileFault::Range));
         Ok(())
     }
 
@@ -195,20 +189,18 @@ mod tests {
         let file = twice_a();
         let extent = Extent::new(0, 2100)?;
         let mut d = Marked::new(ReadMemory::new(&file));
-        let _ = d.mark(3);
-        let Err(bad) = start(&mut d, extent, b"a") else {
-            return Err(Fail::new("bad"));
+        d.mark(3)?;
+        let bad = Located {
+            fault: DeviceFault::Bad(1536),
+            table: 196,
+            place: 1568,
         };
         assert_eq!(rt;
-            bad,
-            FileFault::Device(Located {
-                fault: DeviceFault::Bad(1536),
-                table: 196,
-                place: 1568,
-            })
+            start(&mut d, extent, b"a").err(),
+            Some(FileFault::Device(bad))
         );
         let mut cursor = start(&mut d, extent, b"")?;
-        assert_eq!(rt; place_of(&mut d, &mut cursor, b"")?, 0);
+        assert_eq!(rt; place_of(&mut d, &mut cursor, b"")?, None);
         Ok(())
     }
 }

@@ -16,16 +16,16 @@ returns-then-not-is_on g c =
     let m : Meaning = g.D.Device.meaning c.args.d.now in
     let u : Cursor = c.args.cursor in
     let no : On m u.extent → ⊥ = λ h. grind arith in
-    let a : Next m u c.args.key.now (Err Range) u = outside no in
-    record { answer = a; only = next_one m u c.args.key.now _ u a; same = refl; sound = c.requires.sound }
+    let a : Next m u c.args.key.bytes.now (Err Range) u = outside no in
+    record { answer = a; only = next_one m u c.args.key.bytes.now _ u a; same = refl }
 
-pub returns-then-hash-cursor : goal.returns-then-hash-cursor
-returns-then-hash-cursor g c =
+pub returns-then-key-cursor : goal.returns-then-key-cursor
+returns-then-key-cursor g c =
     let m : Meaning = g.D.Device.meaning c.args.d.now in
     let u : Cursor = c.args.cursor in
     let on : On m u.extent = search rules in
-    let a : Next m u c.args.key.now (Err OtherKey) u = other_key on (λ h. c.if-hash-cursor.true (c.requires.hashed ∙ h)) in
-    record { answer = a; only = next_one m u c.args.key.now _ u a; same = refl; sound = c.requires.sound }
+    let a : Next m u c.args.key.bytes.now (Err OtherKey) u = other_key on (λ h. c.if-key-cursor.true (c.args.key.hashed ∙ h)) in
+    record { answer = a; only = next_one m u c.args.key.bytes.now _ u a; same = refl }
 
 advanced : (m : Meaning) (u : Cursor) (key : List _) (r : Result Step FileFault) → On m u.extent → hash_of key ≡ u.hash → Walked m u key r → Advances m u key r
 advanced m u key (Ok s) on q w = walked on q w
@@ -35,10 +35,9 @@ only-advanced : (m : Meaning) (u : Cursor) (key : List _) (r : Result Step FileF
 only-advanced m u key (Ok s) a = next_one m u key _ _ a
 only-advanced m u key (Err f) a = next_one m u key _ _ a
 
-pub returns : goal.returns
-returns g c =
-    let m : Meaning = g.D.Device.meaning c.args.d.now in
-    let u : Cursor = c.args.cursor in
-    let on : On m u.extent = search rules in
-    let a = advanced m u c.args.key.now c.walk.result on (sym c.requires.hashed ∙ c.if-hash-cursor.false) c.walk.ensures.walk in
-    record { answer = a; only = only-advanced m u c.args.key.now c.walk.result a; same = c.walk.ensures.same; sound = c.walk.ensures.sound }
+pub returns-clause-answer : goal.returns-clause-answer
+returns-clause-answer g c = advanced _ c.args.cursor c.args.key.bytes.now c.walk.result (search rules) (sym c.args.key.hashed ∙ c.if-key-cursor.false) c.walk.ensures.walk
+
+pub returns-clause-only : goal.returns-clause-only
+returns-clause-only g c =
+    only-advanced (g.D.Device.meaning c.args.d.now) c.args.cursor c.args.key.bytes.now c.walk.result (advanced _ _ _ _ (search rules) (sym c.args.key.hashed ∙ c.if-key-cursor.false) c.walk.ensures.walk)

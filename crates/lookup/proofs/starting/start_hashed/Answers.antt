@@ -19,15 +19,15 @@ pub returns-then-not-is_on : goal.returns-then-not-is_on
 returns-then-not-is_on g c =
     let m : Meaning = g.D.Device.meaning c.args.d.now in
     let no : On m c.args.extent → ⊥ = λ h. grind arith in
-    let a : Start m c.args.extent c.args.key.now (Err Range) = outside no in
-    record { answer = a; only = start_one m c.args.extent c.args.key.now _ a; whole = c.is_on.ensures.whole; same = refl; sound = c.requires.sound }
+    let a : Start m c.args.extent c.args.key.bytes.now (Err Range) = outside no in
+    record { answer = a; only = start_one m c.args.extent c.args.key.bytes.now _ a; same = refl }
 
 pub returns-then-extent-lt2048 : goal.returns-then-extent-lt2048
 returns-then-extent-lt2048 g c =
     let m : Meaning = g.D.Device.meaning c.args.d.now in
     let on : On m c.args.extent = search rules in
-    let a : Start m c.args.extent c.args.key.now (Err (Short c.args.extent.len)) = short on c.if-extent-lt2048.true in
-    record { answer = a; only = start_one m c.args.extent c.args.key.now _ a; whole = c.is_on.ensures.whole; same = refl; sound = c.requires.sound }
+    let a : Start m c.args.extent c.args.key.bytes.now (Err (Short c.args.extent.len)) = short on c.if-extent-lt2048.true in
+    record { answer = a; only = start_one m c.args.extent c.args.key.bytes.now _ a; same = refl }
 
 entry-refused : (m : Meaning) (e : Extent) (key : List ℕ) (h : ℕ) (f : DeviceFault) → h ≡ hash_of key → On m e → 2048 ≤ e.len
     → FirstBad m (e.start + 8 * (h % 256)) 8 f → Start m e key (Err (Device (located f (h % 256) (8 * (h % 256)))))
@@ -39,12 +39,12 @@ pub returns-in_err-words : goal.returns-in_err-words
 returns-in_err-words g c =
     let m : Meaning = g.D.Device.meaning c.args.d.now in
     let e : Extent = c.args.extent in
-    let h : ℕ = c.args.hash in
+    let h : ℕ = c.args.key.hash in
     let on : On m e = search rules in
     let r = err_from_is_err_and c.from_residual.result c.from_residual.ensures.1 in
-    let b = words_refused m e (h % 256) (8 * (h % 256)) c.two_words.result c.add_place.result c.two_words.ensures.read c.add_place.ensures c.in_err-words.field-0.0 c.in_err-words.was in
-    let a : Start m e c.args.key.now c.from_residual.result = rw (r.1, r.2, b.2) (entry-refused m e c.args.key.now h b.0 c.requires.hashed on c.if-extent-lt2048.false b.1) in
-    record { answer = a; only = start_one m e c.args.key.now _ a; whole = c.is_on.ensures.whole; same = c.two_words.ensures.same; sound = c.two_words.ensures.sound }
+    let b = words_refused m e (h % 256) (8 * (h % 256)) c.read_words.result c.add_place.result c.read_words.ensures.read c.add_place.ensures c.in_err-words.field-0.0 c.in_err-words.was in
+    let a : Start m e c.args.key.bytes.now c.from_residual.result = rw (r.1, r.2, b.2) (entry-refused m e c.args.key.bytes.now h b.0 c.args.key.hashed on c.if-extent-lt2048.false b.1) in
+    record { answer = a; only = start_one m e c.args.key.bytes.now _ a; same = c.read_words.ensures.same }
 
 -- the cursor that start makes
 abbrev made : Extent → ℕ → ℕ → ℕ → Cursor
@@ -54,13 +54,13 @@ pub returns : goal.returns
 returns g c =
     let m : Meaning = g.D.Device.meaning c.args.d.now in
     let e : Extent = c.args.extent in
-    let h : ℕ = c.args.hash in
+    let h : ℕ = c.args.key.hash in
     let on : On m e = search rules in
-    let w = words_read m e (h % 256) (8 * (h % 256)) c.two_words.result c.add_place.result c.two_words.ensures.read c.add_place.ensures c.in_ok-words.words (omega arith) c.in_ok-words.was in
+    let w = words_read m e (h % 256) (8 * (h % 256)) c.read_words.result c.add_place.result c.read_words.ensures.read c.add_place.ensures c.in_ok-words.words (omega arith) c.in_ok-words.was in
     let f : List ℕ = file m e in
-    let same : made e h c.in_ok-words.words.first c.in_ok-words.words.second ≡ fresh m e c.args.key.now =
+    let same : made e h c.in_ok-words.words.first c.in_ok-words.words.second ≡ fresh m e c.args.key.bytes.now =
     ap (λ (x : ℕ). made e h x c.in_ok-words.words.second) w.1 ∙ ap (λ (x : ℕ). made e h (word_at f (8 * (h % 256))) x) w.2
-    ∙ ap (λ (x : ℕ). made e x (word_at f (8 * (x % 256))) (word_at f (8 * (x % 256) + 4))) c.requires.hashed in
-    let a = subst (λ (x : Cursor). Start m e c.args.key.now (Ok x)) (sym same)
-    (started on c.if-extent-lt2048.false (subst (λ (x : ℕ). AllRead m (e.start + 8 * (x % 256)) 8) c.requires.hashed w.0.1)) in
-    record { answer = a; only = start_one m e c.args.key.now _ a; whole = c.is_on.ensures.whole; same = c.two_words.ensures.same; sound = c.two_words.ensures.sound }
+    ∙ ap (λ (x : ℕ). made e x (word_at f (8 * (x % 256))) (word_at f (8 * (x % 256) + 4))) c.args.key.hashed in
+    let a = subst (λ (x : Cursor). Start m e c.args.key.bytes.now (Ok x)) (sym same)
+    (started on c.if-extent-lt2048.false (subst (λ (x : ℕ). AllRead m (e.start + 8 * (x % 256)) 8) c.args.key.hashed w.0.1)) in
+    record { answer = a; only = start_one m e c.args.key.bytes.now _ a; same = c.read_words.ensures.same }

@@ -37,7 +37,7 @@ returns-then-not-is_on g c =
     let m : Meaning = g.D.Device.meaning c.args.d.now in
     let no : On m c.args.extent → ⊥ = λ h. grind arith in
     let a : Takes m c.args.extent c.args.from c.args.end c.args.buffer.now (Err Range) c.args.buffer.now = outside (λ h. no h.on_device) in
-    record { answer = a; only = takes_one m c.args.extent c.args.from c.args.end c.args.buffer.now _ _ a; same = refl; sound = c.requires.sound }
+    record { answer = a; only = takes_one m c.args.extent c.args.from c.args.end c.args.buffer.now _ _ a; same = refl }
 
 pub returns-then-past-end : goal.returns-then-past-end
 returns-then-past-end g c =
@@ -49,7 +49,7 @@ returns-then-past-end g c =
       | then-past-end-via-else-past-end+then-past-extent w ↦ omega (arith, w.if-past-extent.true, h.in_file)
     ] in
     let a : Takes m c.args.extent c.args.from c.args.end c.args.buffer.now (Err Range) c.args.buffer.now = outside no in
-    record { answer = a; only = takes_one m c.args.extent c.args.from c.args.end c.args.buffer.now _ _ a; same = refl; sound = c.requires.sound }
+    record { answer = a; only = takes_one m c.args.extent c.args.from c.args.end c.args.buffer.now _ _ a; same = refl }
 
 pub returns-in_err-add_place : goal.returns-in_err-add_place
 returns-in_err-add_place g c =
@@ -62,8 +62,8 @@ returns-in_err-add_place g c =
     let b = add_place_err c.read_part.result c.add_place.result c.in_err-add_place.field-0.0 256 from c.add_place.ensures c.in_err-add_place.was in
     let h = subst (λ (x : Result (Unit {0}) DeviceFault). Fetched m (e.start + from) c.args.buffer.now x c.read_part.new.buffer) b.1 c.read_part.ensures.filled in
     let a : Takes m e from c.args.end c.args.buffer.now c.from_residual.result c.read_part.new.buffer =
-    rw (r.1, r.2, b.2) (halted m e from c.args.end c.args.buffer.now c.read_part.new.buffer c.is_on.ensures.whole i b.0 h) in
-    record { answer = a; only = takes_one m e from c.args.end c.args.buffer.now _ _ a; same = c.read_part.ensures.same; sound = c.read_part.ensures.sound }
+    rw (r.1, r.2, b.2) (halted m e from c.args.end c.args.buffer.now c.read_part.new.buffer (g.met.D.Device.whole c.args.d.now) i b.0 h) in
+    record { answer = a; only = takes_one m e from c.args.end c.args.buffer.now _ _ a; same = c.read_part.ensures.same }
 
 pub returns : goal.returns
 returns g c =
@@ -74,5 +74,5 @@ returns g c =
     let i : Inside m e from c.args.end (length c.args.buffer.now) = record { on_device = on; in_file = omega arith; in_data = omega arith } in
     let b = add_place_ok c.read_part.result c.add_place.result tt 256 from c.add_place.ensures c.in_ok-add_place.was in
     let h = subst (λ (x : Result (Unit {0}) DeviceFault). Fetched m (e.start + from) c.args.buffer.now x c.read_part.new.buffer) b c.read_part.ensures.filled in
-    let a = took m e from c.args.end c.args.buffer.now c.read_part.new.buffer c.is_on.ensures.whole i h in
-    record { answer = a; only = takes_one m e from c.args.end c.args.buffer.now _ _ a; same = c.read_part.ensures.same; sound = c.read_part.ensures.sound }
+    let a = took m e from c.args.end c.args.buffer.now c.read_part.new.buffer (g.met.D.Device.whole c.args.d.now) i h in
+    record { answer = a; only = takes_one m e from c.args.end c.args.buffer.now _ _ a; same = c.read_part.ensures.same }

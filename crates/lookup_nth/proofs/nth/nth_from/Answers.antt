@@ -12,10 +12,7 @@ use Rattle.lookup_nth.proofs.Numbered.{from_later, from_here}
 use Rattle.lookup_nth.proofs.nth.nth_from.Goals as goal
 
 pub loop-step-init : goal.loop-step-init
-loop-step-init g c = (refl, c.requires.sound, λ r n. n)
-
-pub advance-requires : goal.advance-requires
-advance-requires g c = record { sound = c.loop-step.invariant.1; hashed = c.requires.hashed }
+loop-step-init g c = (refl, λ r n. n)
 
 -- what a step answered, on the device as it was
 module _ (m n : Meaning) (u : Cursor) (key : List ℕ) (same : n ≡ m) where
@@ -30,15 +27,15 @@ returns-in_err-step g c =
     let m : Meaning = g.D.Device.meaning c.args.d.now in
     let inv = c.loop-step.invariant in
     let r = err_from_is_err_and c.from_residual.result c.from_residual.ensures.1 in
-    let a = denied m _ c.loop-step.at c.args.key.now inv.0 c.advance.result _ c.in_err-step.was c.advance.ensures.answer in
-    record { nth = rw (r.1, r.2) (inv.2 _ (nths.refused a)); same = c.advance.ensures.same ∙ inv.0; sound = c.advance.ensures.sound }
+    let a = denied m _ c.loop-step.at c.args.key.bytes.now inv.0 c.advance.result _ c.in_err-step.was c.advance.ensures.answer in
+    record { nth = rw (r.1, r.2) (inv.1 _ (nths.refused a)); same = c.advance.ensures.same ∙ inv.0 }
 
 pub returns-in_default : goal.returns-in_default
 returns-in_default g c =
     let m : Meaning = g.D.Device.meaning c.args.d.now in
     let inv = c.loop-step.invariant in
-    let a = advanced m _ c.loop-step.at c.args.key.now inv.0 c.advance.result c.in_ok-step.step c.in_ok-step.was c.advance.ensures.answer None c.in_default.is in
-    record { nth = inv.2 (Ok None) (nths.ended a); same = c.advance.ensures.same ∙ inv.0; sound = c.advance.ensures.sound }
+    let a = advanced m _ c.loop-step.at c.args.key.bytes.now inv.0 c.advance.result c.in_ok-step.step c.in_ok-step.was c.advance.ensures.answer None c.in_default.is in
+    record { nth = inv.1 (Ok None) (nths.ended a); same = c.advance.ensures.same ∙ inv.0 }
 
 pub returns-then-left-eq0 : goal.returns-then-left-eq0
 returns-then-left-eq0 g c =
@@ -46,11 +43,10 @@ returns-then-left-eq0 g c =
     let inv = c.loop-step.invariant in
     let u : Cursor = c.loop-step.at in
     let s : Step = c.in_ok-step.step in
-    let a = advanced m _ u c.args.key.now inv.0 c.advance.result s c.in_ok-step.was c.advance.ensures.answer (Some c.in-Some.found) c.in-Some.is in
+    let a = advanced m _ u c.args.key.bytes.now inv.0 c.advance.result s c.in_ok-step.was c.advance.ensures.answer (Some c.in-Some.found) c.in-Some.is in
     record {
-      nth = inv.2 _ (from_here m c.args.key.now u (probed_to u s.probed) c.loop-step.left c.in-Some.found c.if-left-eq0.true a);
+      nth = inv.1 _ (from_here m c.args.key.bytes.now u (probed_to u s.probed) c.loop-step.left c.in-Some.found c.if-left-eq0.true a);
       same = c.advance.ensures.same ∙ inv.0;
-      sound = c.advance.ensures.sound;
     }
 
 pub loop-step-preserved : goal.loop-step-preserved
@@ -59,8 +55,7 @@ loop-step-preserved g c =
     let inv = c.loop-step.invariant in
     let u : Cursor = c.loop-step.at in
     let s : Step = c.in_ok-step.step in
-    let a = advanced m _ u c.args.key.now inv.0 c.advance.result s c.in_ok-step.was c.advance.ensures.answer (Some c.in-Some.found) c.in-Some.is in (
+    let a = advanced m _ u c.args.key.bytes.now inv.0 c.advance.result s c.in_ok-step.was c.advance.ensures.answer (Some c.in-Some.found) c.in-Some.is in (
       c.advance.ensures.same ∙ inv.0,
-      c.advance.ensures.sound,
-      λ r n. inv.2 r (from_later m c.args.key.now u (probed_to u s.probed) c.loop-step.left c.in-Some.found (omega arith) a r n),
+      λ r n. inv.1 r (from_later m c.args.key.bytes.now u (probed_to u s.probed) c.loop-step.left c.in-Some.found (omega arith) a r n),
     )

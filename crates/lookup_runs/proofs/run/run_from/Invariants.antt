@@ -7,4 +7,3 @@ invariant-loop-i g l =
     (length l.answers ≡ length l.calls)
     × Keeps l.extent (g.D.Device.meaning l.initial.d) (g.D.Device.meaning l.d)
     × RanTo (g.D.Device.meaning l.initial.d) l.extent l.key l.initial.at l.initial.buffer (take l.i l.calls) (take l.i l.answers) l.at l.buffer
-    × g.D.Device.sound l.d

@@ -1,10 +1,6 @@
-use Rattle.std.proofs.Common.{ℕ, ◌≤◌, length, sym, refl, subst}
-use Rattle.std.proofs.lemmas.List.{set_past}
-use Rattle.lookup_changing.specs.Flips.{beside}
+use Rattle.std.proofs.Common.{◌∙◌, arith}
+use Rattle.lookup_changing.proofs.Keeping.{set_fitting, set_whole}
 use Rattle.lookup_changing.proofs.flipping.FlippingMemory.flip.Goals as goal
 
-pub returns-else-place-self : goal.returns-else-place-self
-returns-else-place-self c =
-    let past : length c.args.self.now.bytes.now ≤ beside c.args.extent =
-    subst (λ (p : ℕ). length c.args.self.now.bytes.now ≤ p) c.place_beside-place.ensures c.if-place-self.false in
-    record { bytes = sym (set_past _ _ _ past); sectors = refl }
+pub invariant_of-self : goal.invariant_of-self
+invariant_of-self c = record { count = c.args.self.now.count ∙ set_fitting _ _ _; whole = set_whole _ _ _ (omega arith) c.args.self.now.whole }
