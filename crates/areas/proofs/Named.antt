@@ -1,9 +1,12 @@
 -- Roots that are not lawful.
-use Rattle.std.proofs.Common.{◌≡◌, ℕ, ◌≤◌, List, sym, ◌∙◌, subst, arith}
+use Rattle.std.proofs.Common.{◌≡◌, ℕ, ◌≤◌, Bool, true, false, List, sym, refl, ◌∙◌, subst, arith}
+use mathlib.Core.Bool.{false≢true}
+use Rattle.std.specs.Bool.{Decides, then_some}
 use Rattle.byte_lists.specs.Bytes.{word_at}
 use Rattle.areas.specs.declared.area.Area.{Area}
 use Rattle.areas.specs.Geometry.{number}
 use Rattle.areas.specs.Roots.{LawfulRoot}
+use Rattle.areas.specs.Steps.{RootIn}
 use Rattle.areas.proofs.Rooted.{root_words, same_area}
 
 module _ (bytes : List ℕ) (sectors : ℕ) (few : sectors ≤ 8388607) where
@@ -26,3 +29,8 @@ module _ (bytes : List ℕ) (sectors : ℕ) (few : sectors ≤ 8388607) where
 
     pub no_root : (LawfulRoot bytes sectors b w → ⊥) → (a : Area) (len : ℕ) → LawfulRoot bytes sectors a len → ⊥
     no_root h a len l = h (only_root a len l)
+
+    -- the root of these words is the one that the bytes are, if it is lawful
+    pub root_if : (yes : Bool) → Decides yes (LawfulRoot bytes sectors b w) → RootIn bytes sectors (then_some yes (record { area = b; len = w }))
+    root_if true d = d.0 refl
+    root_if false d = no_root (λ l. false≢true (d.1 l))

@@ -1,5 +1,5 @@
 -- The bytes of a root.
-use Rattle.std.proofs.Common.{◌≡◌, ℕ, ◌^◌, ◌<◌, List, ◌++◌, length, drop, replicate, Some, None, Ok, Err, Option, Result, sym, refl, ap, ◌∙◌, subst, arith}
+use Rattle.std.proofs.Common.{◌≡◌, ℕ, ◌^◌, ◌<◌, List, ◌++◌, length, drop, replicate, Some, None, Ok, Option, Result, sym, refl, ap, ◌∙◌, subst, arith}
 use Rattle.std.proofs.lemmas.List.{length-append, drop-replicate, length-replicate}
 use Rattle.byte_lists.specs.Bytes.{part, word, word_at}
 use Rattle.byte_lists.proofs.Parts.{At, at_both, at_self}
@@ -37,23 +37,17 @@ root_words bytes a len s e =
     (word_read bytes 0 (number a) (number_small a) both.0, word_read bytes 4 len s both.1)
 
 by_answer : (o : Option DeviceFault) (new old got : List ℕ) (r : Result (Unit {0}) DeviceFault) → r ≡ answer o → got ≡ filled o new old
-    → ((u : Unit {0}) → r ≡ Ok u → (o ≡ None) × (got ≡ new)) × ((f : DeviceFault) → r ≡ Err f → o ≡ Some f)
-by_answer None new old got r e g = ((λ u h. (refl, g)), λ f h. let z : ◌≡◌ {A = ℕ} 0 1 = cc in absurd (omega arith))
-by_answer (Some x) new old got r e g = ((λ u h. let z : ◌≡◌ {A = ℕ} 0 1 = cc in absurd (omega arith)), λ f h. cc)
+    → (u : Unit {0}) → r ≡ Ok u → (o ≡ None) × (got ≡ new)
+by_answer None new old got r e g u h = (refl, g)
+by_answer (Some x) new old got r e g u h = absurd cc
 
 -- sector 0 is read
-module _ (m : Meaning) (old got : List ℕ) (r : Result (Unit {0}) DeviceFault) (l : length old ≡ 512) (a : r ≡ answer (refusal m 0 (length old))) (g : got ≡ filled (refusal m 0 (length old)) (part m.bytes 0 (length old)) old) where
-  both : ((u : Unit {0}) → r ≡ Ok u → (refusal m 0 512 ≡ None) × (got ≡ part m.bytes 0 512)) × ((f : DeviceFault) → r ≡ Err f → refusal m 0 512 ≡ Some f)
-  both =
-      let P : ℕ → Type 0 = λ k. r ≡ answer (refusal m 0 k) in
-      let Q : ℕ → Type 0 = λ k. got ≡ filled (refusal m 0 k) (part m.bytes 0 k) old in
-      by_answer (refusal m 0 512) (part m.bytes 0 512) old got r (subst P l a) (subst Q l g)
-
-  pub root_is_read : (u : Unit {0}) → r ≡ Ok u → (refusal m 0 512 ≡ None) × (got ≡ part m.bytes 0 512)
-  root_is_read = both.0
-
-  pub root_is_refused : (f : DeviceFault) → r ≡ Err f → refusal m 0 512 ≡ Some f
-  root_is_refused = both.1
+pub root_is_read : (m : Meaning) (old got : List ℕ) (r : Result (Unit {0}) DeviceFault) → length old ≡ 512 → r ≡ answer (refusal m 0 (length old))
+    → got ≡ filled (refusal m 0 (length old)) (part m.bytes 0 (length old)) old → (u : Unit {0}) → r ≡ Ok u → (refusal m 0 512 ≡ None) × (got ≡ part m.bytes 0 512)
+root_is_read m old got r l a g =
+    let P : ℕ → Type 0 = λ k. r ≡ answer (refusal m 0 k) in
+    let Q : ℕ → Type 0 = λ k. got ≡ filled (refusal m 0 k) (part m.bytes 0 k) old in
+    by_answer (refusal m 0 512) (part m.bytes 0 512) old got r (subst P l a) (subst Q l g)
 
 pub same_area : (a b : Area) → number a ≡ number b → a ≡ b
 same_area Zero Zero e = refl

@@ -1,7 +1,8 @@
 -- Where the root and the two areas of a shelf lie on its device.
-use Rattle.std.specs.Prelude.{◌≡◌, ℕ, ◌+◌, ◌-◌, ◌*◌, ◌/◌, List, ◌++◌, replicate, Some, None, Option, ◌≢◌}
+use Rattle.std.specs.Prelude.{◌≡◌, ℕ, ◌+◌, ◌-◌, ◌*◌, ◌/◌, List, ◌++◌, replicate, Ok, Err, Result, ◌≢◌}
 use Rattle.byte_lists.specs.Bytes.{word}
 use Rattle.areas.specs.declared.area.Area.{Area}
+use Rattle.areas.specs.declared.area.UnknownArea.{UnknownArea}
 use Rattle.areas.specs.declared.area.Area.TheVariants.{Zero, One}
 
 -- an area's number, as the root has it
@@ -9,10 +10,10 @@ abbrev pub number : Area → ℕ
 number Zero = 0
 number One = 1
 
--- the area of a number, if it has one
-abbrev pub Numbered : ℕ → Option Area → Type 0
-Numbered n (Some a) = n ≡ number a
-Numbered n None = (a : Area) → n ≢ number a
+-- the area of a number, or the number, where no area has it
+abbrev pub Numbered : ℕ → Result Area UnknownArea → Type 0
+Numbered n (Ok a) = n ≡ number a
+Numbered n (Err e) = (e.0 ≡ n) × ((a : Area) → n ≢ number a)
 
 -- the other area
 abbrev pub other : Area → Area

@@ -1,5 +1,5 @@
 -- Tables that start empty.
-use Rattle.std.proofs.Common.{◌≡◌, ℕ, ◌+◌, ◌-◌, ◌*◌, ◌<◌, ◌≤◌, List, [], length, get_or, take, replicate, Ok, Err, sum, Result, sym, refl, ap, ◌∙◌, subst, inr, arith}
+use Rattle.std.proofs.Common.{◌≡◌, ℕ, ◌+◌, ◌-◌, ◌*◌, ◌<◌, ◌≤◌, List, [], length, get_or, replicate, Ok, Err, Result, sym, refl, ap, ◌∙◌, subst, inr, arith}
 use Rattle.std.proofs.lemmas.List.{get_or-replicate}
 use Rattle.byte_lists.proofs.Parts.{At, at_get_d}
 use Rattle.faults.specs.declared.device.DeviceFault.{DeviceFault}
@@ -11,9 +11,9 @@ use Rattle.writing.proofs.Running.{bad_after}
 use Rattle.writing.proofs.Zeroed.{zeros_long}
 use Rattle.building.specs.declared.entries.Entry.{Entry}
 use Rattle.building.specs.Entries.{count_of}
-use Rattle.building.specs.Builds.{Counts, Starts, start_of, FilledWith, FillsAll}
+use Rattle.building.specs.Builds.{start_of, FilledWith, FillsAll}
 use Rattle.building.specs.Closes.{Builds}
-use Rattle.building.proofs.Counting.{count_fits, sum_below}
+use Rattle.building.proofs.Counting.{count_fits}
 use Rattle.building.proofs.Slotted.{slots_zero, at_laid}
 
 abbrev pub zeros : ℕ → List ℕ
@@ -80,9 +80,3 @@ module _ (m n : Meaning) (from : ℕ) (es : List Entry) (w : Whole m) (l : from 
       } in
       let P : DeviceFault → Type 0 = λ q. Interrupted m from size q o in
       subst P (sym b.0) (inr h)
-
-pub zeros_interrupted : (m n : Meaning) (from k : ℕ) (f : DeviceFault) → Interrupted m from (length (zeros k)) f n → Interrupted m from k f n
-zeros_interrupted m n from k f h = subst (λ (q : ℕ). Interrupted m from q f n) (zeros_long k) h
-
-pub starts_from : (cs ss : List ℕ) (from : ℕ) (es : List Entry) → Counts cs es → ((t : ℕ) → t < 256 → get_or ss t 0 ≡ from + 16 * sum (take t cs)) → Starts ss from es
-starts_from cs ss from es c h t l = h t l ∙ ap (λ (q : ℕ). from + 16 * q) (sum_below cs es c t (omega arith))

@@ -1,48 +1,16 @@
 -- How many entries belong to each table.
-use Rattle.std.proofs.Common.{◌≡◌, ℕ, zero, suc, ◌+◌, ◌-◌, ◌*◌, ◌%◌, ◌^◌, ◌<◌, ◌≤◌, cond, eqb, ltb, ◌≢◌, List, [], ◌∷◌, length, get_or, take, set, replicate, sum, sym, refl, ap, ◌∙◌, subst, ⊎_elim, arith, get_or-set_other, get_or-set_same}
+use Rattle.std.proofs.Common.{◌≡◌, ℕ, zero, suc, ◌+◌, ◌-◌, ◌*◌, ◌%◌, ◌<◌, ◌≤◌, cond, eqb, ltb, ◌≢◌, List, [], ◌∷◌, length, get_or, set, replicate, sym, refl, ap, ◌∙◌, ⊎_elim, arith, get_or-set_other, get_or-set_same}
 use Rattle.std.proofs.lemmas.Bool.Decides.{nat_tests}
-use Rattle.std.proofs.lemmas.List.{get_or-replicate, length-replicate, length-set, length-take-le, take_all}
-use Rattle.std.proofs.lemmas.List.Sums.{sum_by-cons, sum_by_more, sum_by-take-le, count_by-le-length, count_by_more_yes, count_by_more_no}
-use Rattle.std.proofs.lemmas.Bool.{cases_eq, eq-eqb, ne_eqb}
+use Rattle.std.proofs.lemmas.List.{get_or-replicate}
+use Rattle.std.proofs.lemmas.List.Sums.{sum_by-cons}
+use Rattle.std.proofs.lemmas.Bool.{cases_eq}
 use Rattle.building.specs.declared.entries.Entry.{Entry}
-use Rattle.building.specs.Entries.{belongs, count_of, count_before}
-use Rattle.building.specs.Builds.{Counts}
-
-pub counted_none : Counts (replicate 256 0) []
-counted_none = record { long = length-replicate {A = ℕ} 256 0; each = λ t l. get_or-replicate {A = ℕ} 256 t 0 0 l }
+use Rattle.building.specs.declared.layout.Table.{Table}
+use Rattle.building.specs.Entries.{count_of, count_before}
+use Rattle.building.specs.Builds.{table_in}
 
 abbrev pub entry_at : List Entry → ℕ → Entry
 entry_at es i = get_or es i (record { hash = 0; place = 0 })
-
-pub counted_more : (cs : List ℕ) (es : List Entry) (i : ℕ) → i < length es → Counts cs (take i es)
-    → Counts (set cs ((entry_at es i).hash % 256) (get_or cs ((entry_at es i).hash % 256) 0 + 1)) (take (i + 1) es)
-counted_more cs es i h c =
-    let t : ℕ = (entry_at es i).hash % 256 in
-    let lt : t < 256 = omega arith in
-    let ll : length cs ≡ 256 = c.long in
-    let inn : t < length cs = omega arith in
-    record {
-      long = length-set cs t (get_or cs t 0 + 1) ∙ c.long;
-      each = λ u l. ⊎_elim
-          (λ (e : u ≡ t).
-          ap (λ (k : ℕ). get_or (set cs t (get_or cs t 0 + 1)) k 0) e ∙ get_or-set_same cs t (get_or cs t 0 + 1) 0 inn
-          ∙ ap (λ (k : ℕ). get_or cs k 0 + 1) (sym e) ∙ ap (λ (k : ℕ). k + 1) (c.each u l)
-          ∙ sym (count_by_more_yes (belongs u) es i (record { hash = 0; place = 0 }) h (eq-eqb t u (sym e))))
-          (λ (ne : u ≢ t).
-          get_or-set_other cs t u (get_or cs t 0 + 1) 0 ne ∙ c.each u l
-          ∙ sym (count_by_more_no (belongs u) es i (record { hash = 0; place = 0 }) h (ne_eqb t u (λ e. ne (sym e)))))
-          (cases_eq u t);
-    }
-
-pub counted_fits : (cs : List ℕ) (es : List Entry) (i t : ℕ) → i < length es → length es < 2 ^ 32 → t < 256 → Counts cs (take i es) → get_or cs t 0 + 1 < 2 ^ 32
-counted_fits cs es i t h l lt c =
-    let a = c.each t lt in
-    let b = count_by-le-length (belongs t) (take i es) in
-    let d = length-take-le i es (omega arith) in
-    omega arith
-
-pub counted_all : (cs : List ℕ) (es : List Entry) (i : ℕ) → length es ≤ i → Counts cs (take i es) → Counts cs es
-counted_all cs es i h c = subst (Counts cs) (take_all i es h) c
 
 one_more : (a t : ℕ) → cond {A = ℕ} (ltb a (t + 1)) 1 0 ≡ cond (ltb a t) 1 0 + cond (eqb a t) 1 0
 one_more a t = grind (arith, nat_tests)
@@ -86,39 +54,32 @@ below_apart es t u l =
     let z : t + 1 + (u - (t + 1)) ≡ u = omega arith in
     omega (arith, ap (λ (k : ℕ). count_before k es) z, below_up es (t + 1) (u - (t + 1)), below_more t es)
 
-pub sum_below : (cs : List ℕ) (es : List Entry) → Counts cs es → (t : ℕ) → t ≤ 256 → sum (take t cs) ≡ count_before t es
-sum_below cs es c zero l = sym (below_none es)
-sum_below cs es c (suc t) l =
-    let z : suc t ≡ t + 1 = omega arith in
-    let long : length cs ≡ 256 = c.long in
-    let a = sum_by_more (λ (x : ℕ). x) cs t 0 (omega arith) in
-    let b = sum_below cs es c t (omega arith) in
-    let d = c.each t (omega arith) in
-    let f = below_more t es in
-    ap (λ (k : ℕ). sum (take k cs)) z ∙ omega (arith, ap (λ (k : ℕ). count_before k es) z)
-
-pub sum_all : (cs : List ℕ) (es : List Entry) → Counts cs es → sum cs ≡ length es
-sum_all cs es c =
-    let long : length cs ≡ 256 = c.long in
-    ap sum (sym (take_all 256 cs (omega arith))) ∙ sum_below cs es c 256 (omega arith) ∙ below_all es
-
 pub count_fits : (es : List Entry) (t : ℕ) → t < 256 → count_before t es + count_of t es ≤ length es
 count_fits es t l = omega (arith, below_apart es t 256 l, below_all es)
 
--- where the tables start, one more
-pub start_fits : (cs : List ℕ) (from next t : ℕ) → t < length cs → from + 16 * sum cs < 2 ^ 32 → next ≡ from + 16 * sum (take t cs) → next + 16 * get_or cs t 0 < 2 ^ 32
-start_fits cs from next t l h e =
-    let a = sum_by_more (λ (x : ℕ). x) cs t 0 l in
-    let b = sum_by-take-le (λ (x : ℕ). x) cs (t + 1) in
-    omega arith
+-- each table has two slots for each of the entries that belong to it
+abbrev pub Counted : List Table → List Entry → Type 0
+Counted ts es = (t : ℕ) → t < 256 → (table_in ts t).slots ≡ 2 * count_of t es
 
-pub start_next : (cs : List ℕ) (from next t : ℕ) → t < length cs → next ≡ from + 16 * sum (take t cs) → next + 16 * get_or cs t 0 ≡ from + 16 * sum (take (t + 1) cs)
-start_next cs from next t l e = let a = sum_by_more (λ (x : ℕ). x) cs t 0 l in omega arith
+pub counted_none : Counted (replicate 256 (record { offset = 0; slots = 0 })) []
+counted_none t l = ap (λ (x : Table). x.slots) (get_or-replicate {A = Table} 256 t (record { offset = 0; slots = 0 }) (record { offset = 0; slots = 0 }) l)
 
-pub starts_more : (cs starts : List ℕ) (from next t : ℕ) → t < length starts → next ≡ from + 16 * sum (take t cs)
-    → ((k : ℕ) → k < t → get_or starts k 0 ≡ from + 16 * sum (take k cs)) → (k : ℕ) → k < t + 1 → get_or (set starts t next) k 0 ≡ from + 16 * sum (take k cs)
-starts_more cs starts from next t l e h k m =
-    ⊎_elim
-    (λ (q : k ≡ t). ap (λ (i : ℕ). get_or (set starts t next) i 0) q ∙ get_or-set_same starts t next 0 l ∙ e ∙ ap (λ (i : ℕ). from + 16 * sum (take i cs)) (sym q))
-    (λ (q : k ≢ t). get_or-set_other starts t k next 0 q ∙ h k (omega arith))
-    (cases_eq k t)
+-- a table gets its place
+module _ (ts : List Table) (i next : ℕ) (l : i < length ts) where
+  abbrev moved : List Table
+  moved = set ts i (record { offset = next; slots = (table_in ts i).slots })
+
+  abbrev none : Table
+  none = record { offset = 0; slots = 0 }
+
+  pub moved_slots : (es : List Entry) → Counted ts es → Counted moved es
+  moved_slots es c t tl = ⊎_elim
+      (λ (q : t ≡ i). ap (λ (k : ℕ). (table_in moved k).slots) q ∙ ap (λ (x : Table). x.slots) (get_or-set_same ts i (record { offset = next; slots = (table_in ts i).slots }) none l) ∙ ap (λ (k : ℕ). (table_in ts k).slots) (sym q) ∙ c t tl)
+      (λ (ne : t ≢ i). ap (λ (x : Table). x.slots) (get_or-set_other ts i t (record { offset = next; slots = (table_in ts i).slots }) none ne) ∙ c t tl)
+      (cases_eq t i)
+
+  pub moved_offsets : (F : ℕ → ℕ) → next ≡ F i → ((t : ℕ) → t < i → (table_in ts t).offset ≡ F t) → (t : ℕ) → t < i + 1 → (table_in moved t).offset ≡ F t
+  moved_offsets F e h t tl = ⊎_elim
+      (λ (q : t ≡ i). ap (λ (k : ℕ). (table_in moved k).offset) q ∙ ap (λ (x : Table). x.offset) (get_or-set_same ts i (record { offset = next; slots = (table_in ts i).slots }) none l) ∙ e ∙ ap F (sym q))
+      (λ (ne : t ≢ i). ap (λ (x : Table). x.offset) (get_or-set_other ts i t (record { offset = next; slots = (table_in ts i).slots }) none ne) ∙ h t (omega arith))
+      (cases_eq t i)

@@ -4,7 +4,7 @@ use Rattle.cdb.specs.Files.{file_of}
 use Rattle.building.specs.Builds.{headed}
 use Rattle.building.specs.Empty.{empty_file}
 
-pub empty_header : headed 2048 (replicate 256 0) 256 ≡ empty_file
+pub empty_header : headed 2048 (replicate 256 (record { offset = 0; slots = 0 })) 256 ≡ empty_file
 unfolding headed empty_file file_of
 empty_header = refl
 

@@ -1,9 +1,9 @@
 -- Tables that grow.
-use Rattle.std.proofs.Common.{◌≡◌, ℕ, zero, suc, ◌+◌, ◌*◌, ◌/◌, ◌%◌, ◌^◌, ◌<◌, ◌≤◌, Bool, true, false, cond, List, [], ◌∷◌, ◌++◌, map, length, get_or, take, set, replicate, count_by, filter, sym, refl, ap, ◌∙◌, subst, inl, inr, ⊎_elim, mod-lt, arith}
+use Rattle.std.proofs.Common.{◌≡◌, ℕ, zero, suc, ◌+◌, ◌*◌, ◌/◌, ◌%◌, ◌<◌, ◌≤◌, Bool, true, false, cond, List, [], ◌∷◌, ◌++◌, map, length, take, set, replicate, count_by, filter, sym, refl, ap, ◌∙◌, subst, inl, inr, ⊎_elim, mod-lt, arith}
 use Rattle.std.proofs.lemmas.List.Sums.{sum_by-cons, sum_by-take-le, count_by_more_yes, length-filter}
 use Rattle.std.proofs.lemmas.List.Elements.{filter_more}
 use Rattle.std.proofs.lemmas.Bool.{cases_lt, cases_eq, eq-eqb, ne_eqb}
-use Rattle.std.proofs.lemmas.List.{length-replicate, length-set, length_push, length-map, map-append, append-nil, take_all}
+use Rattle.std.proofs.lemmas.List.{length_push, length-map, map-append, append-nil, take_all}
 use Rattle.byte_lists.specs.Bytes.{word_at}
 use Rattle.device.specs.Meanings.{Meaning}
 use Rattle.cdb.specs.Tables.{Slot, blank, slot, home, slot_away, Fills, start, put}
@@ -17,8 +17,9 @@ use Rattle.writing.specs.Runs.{Outside, Lost}
 use Rattle.writing.proofs.Keeping.{used_both, counted_before, keeps_both, outside_part}
 use Rattle.writing.proofs.Running.{bad_after}
 use Rattle.building.specs.declared.entries.Entry.{Entry}
+use Rattle.building.specs.declared.layout.Table.{Table}
 use Rattle.building.specs.Entries.{slot_of, belongs, count_of, puts_into}
-use Rattle.building.specs.Builds.{Counts, Starts, start_of, table_at, HasRoom, PutInto, FilledWith}
+use Rattle.building.specs.Builds.{table_in, TablesOf, start_of, table_at, HasRoom, PutInto, FilledWith}
 use Rattle.building.proofs.Ranged.{good_range}
 use Rattle.building.proofs.Slotted.{slots_same}
 use Rattle.building.proofs.Counting.{entry_at, below_apart, count_fits}
@@ -38,10 +39,6 @@ set_count (y ∷ s) (suc k) x = omega (arith, sum_by-cons one y (set s k x), sum
 blank_count : (n : ℕ) → count_by taken (replicate n blank) ≡ 0
 blank_count zero = refl
 blank_count (suc n) = omega (arith, sum_by-cons one blank (replicate n blank), blank_count n)
-
-pub fill_long : {len : ℕ} {xs s : List Slot} → Fills len xs s → length s ≡ len
-fill_long {len} start = length-replicate len blank
-fill_long (put {xs} {s} {t} {x} f p) = ap length p.after ∙ length-set s _ x ∙ fill_long f
 
 pub fill_count : {len : ℕ} {xs s : List Slot} → Fills len xs s → count_by taken s ≤ length xs
 fill_count {len} start = omega (arith, blank_count len)
@@ -167,19 +164,16 @@ pub filled_all : (m n : Meaning) (from : ℕ) (es : List Entry) (i : ℕ) → le
 filled_all m n from es i l b = let P : List Entry → Type 0 = λ q. FilledWith m from es q n in subst P (take_all i es l) b
 
 -- a table by what the code has of it
-pub by_start : (P : ℕ → ℕ → Type 0) (cs ss : List ℕ) (from : ℕ) (es : List Entry) (t : ℕ) → t < 256 → Counts cs es → Starts ss from es
-    → P (start_of from es t) (2 * count_of t es) → P (get_or ss t 0) (2 * get_or cs t 0)
-by_start P cs ss from es t l c s h =
-    let F : ℕ → Type 0 = λ q. P q (2 * get_or cs t 0) in
-    let G : ℕ → Type 0 = λ q. P (start_of from es t) (2 * q) in
-    subst F (sym (s t l)) (subst G (sym (c.each t l)) h)
+module _ (P : ℕ → ℕ → Type 0) (ts : List Table) (from : ℕ) (es : List Entry) (t u : ℕ) (l : t < 256) (e : u ≡ t) (h : TablesOf ts es) where
+  abbrev coded : ℕ → Type 0
+  coded q = P (from + (table_in ts q).offset) (table_in ts q).slots
 
-pub to_start : (P : ℕ → ℕ → Type 0) (cs ss : List ℕ) (from : ℕ) (es : List Entry) (t : ℕ) → t < 256 → Counts cs es → Starts ss from es
-    → P (get_or ss t 0) (2 * get_or cs t 0) → P (start_of from es t) (2 * count_of t es)
-to_start P cs ss from es t l c s h =
-    let F : ℕ → Type 0 = λ q. P q (2 * count_of t es) in
-    let G : ℕ → Type 0 = λ q. P (get_or ss t 0) (2 * q) in
-    subst F (s t l) (subst G (c.each t l) h)
+  pub by_table : P (start_of from es t) (2 * count_of t es) → coded u
+  by_table x =
+      let F : ℕ → Type 0 = λ q. P (from + q) (table_in ts t).slots in
+      subst coded (sym e) (subst F (sym (h.offsets t l)) (subst (P (start_of from es t)) (sym (h.slots t l)) x))
 
-pub len_fits : (cs : List ℕ) (es : List Entry) (t : ℕ) → t < 256 → Counts cs es → 16 * length es ≤ 512 * 8388607 → 2 * get_or cs t 0 < 2 ^ 32
-len_fits cs es t l c h = omega (arith, c.each t l, count_fits es t l)
+  pub to_table : coded u → P (start_of from es t) (2 * count_of t es)
+  to_table x =
+      let F : ℕ → Type 0 = λ q. P (from + q) (2 * count_of t es) in
+      subst F (h.offsets t l) (subst (P (from + (table_in ts t).offset)) (h.slots t l) (subst coded e x))

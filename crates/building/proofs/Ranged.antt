@@ -7,9 +7,9 @@ use Rattle.file.specs.Ranges.{Reads, AllRead}
 use Rattle.writing.specs.Runs.{Touches}
 
 by_cases : (on bad : Bool) (f : DeviceFault) → cond on (cond bad (Some f) None) (Some Power) ≡ None → (on ≡ true) × (bad ≡ false)
-by_cases true true f e = let z : ◌≡◌ {A = ℕ} 0 1 = cc in absurd (omega arith)
+by_cases true true f e = absurd cc
 by_cases true false f e = (refl, refl)
-by_cases false bad f e = let z : ◌≡◌ {A = ℕ} 0 1 = cc in absurd (omega arith)
+by_cases false bad f e = absurd cc
 
 -- a sector that is not refused has power and is good
 pub not_refused : (m : Meaning) (s : ℕ) → refuses m s ≡ None → (m.power ≡ true) × (is_bad m s ≡ false)

@@ -1,7 +1,6 @@
 -- An entry in its table.
-use Rattle.std.proofs.Common.{◌≡◌, ℕ, ◌+◌, ◌*◌, ◌^◌, ◌<◌, ◌≤◌, false, List, length, set, Ok, Err, Result, sym, refl, ap, ◌∙◌, subst, inl, inr, ⊎_elim, mod-lt, arith}
+use Rattle.std.proofs.Common.{◌≡◌, ℕ, ◌+◌, ◌*◌, ◌^◌, ◌<◌, ◌≤◌, false, List, length, set, Ok, Err, Result, sym, refl, ap, ◌∙◌, subst, inl, inr, mod-lt, arith}
 use mathlib.Core.Bool.{false≢true}
-use Rattle.std.proofs.lemmas.Bool.{cases_lt}
 use Rattle.byte_lists.specs.Bytes.{word_at}
 use Rattle.byte_lists.proofs.Parts.{At}
 use Rattle.faults.specs.declared.device.DeviceFault.{DeviceFault}
@@ -17,11 +16,6 @@ use Rattle.writing.proofs.Keeping.{completed_keeps, keeps_less, outside_part, us
 use Rattle.building.specs.Builds.{Nearest, PutsEntry}
 use Rattle.building.proofs.Ranged.{range_on, range_good}
 use Rattle.building.proofs.Slotted.{slots_set, seen_back, at_laid}
-
--- an empty slot lies further on
-pub further : (bytes : List ℕ) (pos len hash j e : ℕ) → e < len → word_at bytes (pos + 8 * slot_away len hash e + 4) ≡ 0
-    → ((i : ℕ) → i < j + 1 → 0 < word_at bytes (pos + 8 * slot_away len hash i + 4)) → j + 1 < len
-further bytes pos len hash j e l z h = ⊎_elim (λ a. let b = h e a in absurd (omega arith)) (λ a. omega arith) (cases_lt e (j + 1))
 
 puts_at : (m o : Meaning) (pos len p : ℕ) (x : Slot) → x.hash < 2 ^ 32 → x.place < 2 ^ 32 → Whole m → pos + 8 * len ≤ 512 * m.sectors → Nearest m.bytes pos len x.hash p
     → Completed m p (slot_bytes x) o → Puts (slots_at m.bytes pos len) x (slots_at o.bytes pos len)
@@ -59,9 +53,6 @@ slot_inside pos len hash j p l e =
 
 slot_in : (bytes : List ℕ) (pos len hash p : ℕ) → Nearest bytes pos len hash p → (pos ≤ p) × (p + 8 ≤ pos + 8 * len)
 slot_in bytes pos len hash p near = slot_inside pos len hash near.distance p near.within near.is
-
-pub near_inside : (bytes : List ℕ) (pos len hash p : ℕ) → Nearest bytes pos len hash p → p + 8 ≤ pos + 8 * len
-near_inside bytes pos len hash p near = (slot_in bytes pos len hash p near).1
 
 module _ (m o : Meaning) (pos len p : ℕ) (x : Slot) (w : Whole m) (i : pos + 8 * len ≤ 512 * m.sectors) (u : AllRead m pos (8 * len)) (near : Nearest m.bytes pos len x.hash p) where
   at_start : pos ≤ p

@@ -11,20 +11,21 @@ use Rattle.writing.specs.Runs.{Outside, Keeps, Completed, Interrupted}
 use Rattle.writing.proofs.Keeping.{completed_keeps, keeps_both, used_both}
 use Rattle.writing.proofs.Running.{bad_after}
 use Rattle.building.specs.declared.entries.Entry.{Entry}
+use Rattle.building.specs.declared.layout.Table.{Table}
 use Rattle.building.specs.Entries.{count_of, count_before, puts_into, Tabled}
-use Rattle.building.specs.Builds.{Counts, headed}
+use Rattle.building.specs.Builds.{TablesOf, headed}
 use Rattle.building.specs.Closes.{Built, Closed, HeaderRefused}
 use Rattle.building.proofs.Counting.{count_fits}
 use Rattle.building.proofs.Slotted.{slots_same, slots_within, at_laid}
 use Rattle.building.proofs.Headed.{headed_long, header_words}
 
-module _ (m k n : Meaning) (base end : ℕ) (cs : List ℕ) (es : List Entry) (w : Whole m) (within : base + (end + 16 * length es) ≤ 512 * m.sectors) (past : 2048 ≤ end) (c : Counts cs es) where
+module _ (m k n : Meaning) (base end : ℕ) (ts : List Table) (es : List Entry) (w : Whole m) (within : base + (end + 16 * length es) ≤ 512 * m.sectors) (past : 2048 ≤ end) (c : TablesOf ts es) where
   abbrev head : List ℕ
-  head = headed end cs 256
+  head = headed end ts 256
 
   module _ (built : Built m (base + end) es k) (done : Completed k base head n) where
     head_long : length head ≡ 2048
-    head_long = headed_long end cs 256
+    head_long = headed_long end ts 256
 
     between_long : length k.bytes ≡ 512 * m.sectors
     between_long = built.keeps.long ∙ w.long
@@ -43,7 +44,7 @@ module _ (m k n : Meaning) (base end : ℕ) (cs : List ℕ) (es : List Entry) (w
         let ln : length n.bytes ≡ 512 * m.sectors = head_keeps.long ∙ b in
         let short : base + L < 2 ^ 32 = omega (arith, w.few) in
         let at : At n.bytes base head = subst (λ (q : List ℕ). At q base head) (sym done.bytes) (at_laid k.bytes base head (omega arith)) in
-        let rd = header_words n.bytes base end cs es c (omega arith) at in
+        let rd = header_words n.bytes base end ts es c (omega arith) at in
         let positions : (t : ℕ) → t < 256 → position f t ≡ end + 16 * count_before t es = λ t tl. word_in n.bytes f base L (8 * t) (base + 8 * t) refl (omega arith) refl ∙ (rd t tl).0 in
         let lengths : (t : ℕ) → t < 256 → slot_count f t ≡ 2 * count_of t es = λ t tl. word_in n.bytes f base L (8 * t + 4) (base + 8 * t + 4) refl (omega arith) (omega arith) ∙ (rd t tl).1 in
         record {
@@ -76,4 +77,4 @@ module _ (m k n : Meaning) (base end : ℕ) (cs : List ℕ) (es : List Entry) (w
         }
 
   pub header_refused : (f : DeviceFault) → Built m (base + end) es k → Interrupted k base (length head) f n → HeaderRefused m base end es f n
-  header_refused f built run = record { between = k; built = built; refused = subst (λ (q : ℕ). Interrupted k base q f n) (headed_long end cs 256) run }
+  header_refused f built run = record { between = k; built = built; refused = subst (λ (q : ℕ). Interrupted k base q f n) (headed_long end ts 256) run }

@@ -1,5 +1,5 @@
 -- The steps of building tables on a device.
-use Rattle.std.specs.Prelude.{◌≡◌, ℕ, zero, suc, ◌+◌, ◌*◌, ◌<◌, true, false, List, [], ◌++◌, length, take, Ok, Err, sum, Result, slice_index}
+use Rattle.std.specs.Prelude.{◌≡◌, ℕ, zero, suc, ◌+◌, ◌*◌, ◌<◌, true, false, List, [], ◌++◌, length, Ok, Err, Result, slice_index_or}
 use Rattle.byte_lists.specs.Bytes.{word, word_at}
 use Rattle.faults.specs.declared.device.DeviceFault.{DeviceFault}
 use Rattle.faults.specs.declared.device.DeviceFault.TheVariants.{Power}
@@ -8,20 +8,21 @@ use Rattle.cdb.specs.Tables.{Slot, Puts, Fills, slot_away}
 use Rattle.cdb.specs.Files.{slots_at}
 use Rattle.writing.specs.Runs.{Touches, Outside, Used, Keeps, Lost}
 use Rattle.building.specs.declared.entries.Entry.{Entry}
+use Rattle.building.specs.declared.layout.Table.{Table}
 use Rattle.building.specs.Entries.{count_of, count_before, puts_into}
 
--- how many entries each table has
-pub record Counts (cs : List ℕ) (es : List Entry) : Type 0 where
-  pub long : length cs ≡ 256
-  pub each : (t : ℕ) → t < 256 → slice_index cs t ≡ count_of t es
+-- table t of these
+abbrev pub table_in : List Table → ℕ → Table
+table_in ts t = slice_index_or ts t (record { offset = 0; slots = 0 })
+
+-- the tables of the entries: each has two slots for each of its entries, and they follow one another
+pub record TablesOf (ts : List Table) (es : List Entry) : Type 0 where
+  pub offsets : (t : ℕ) → t < 256 → (table_in ts t).offset ≡ 16 * count_before t es
+  pub slots : (t : ℕ) → t < 256 → (table_in ts t).slots ≡ 2 * count_of t es
 
 -- where table t of the entries starts, if the first starts at a place
 abbrev pub start_of : ℕ → List Entry → ℕ → ℕ
 start_of from es t = from + 16 * count_before t es
-
--- where each table starts
-abbrev pub Starts : List ℕ → ℕ → List Entry → Type 0
-Starts ss from es = (t : ℕ) → t < 256 → slice_index ss t ≡ start_of from es t
 
 -- the slots of table t of the entries
 abbrev pub table_at : List ℕ → ℕ → List Entry → ℕ → List Slot
@@ -66,7 +67,7 @@ abbrev pub FillsAll : Meaning → ℕ → List Entry → Result (Unit {0}) Devic
 FillsAll m from es (Ok _) n = FilledWith m from es es n
 FillsAll m from es (Err f) n = (f ≡ Power) × Lost m from (16 * length es) n
 
--- the header entries of the first t tables, of which the first is at a place of the file, by the number of entries of each
-unfoldable pub headed : ℕ → List ℕ → ℕ → List ℕ
-headed p cs zero = []
-headed p cs (suc t) = headed p cs t ++ (word (p + 16 * sum (take t cs)) ++ word (2 * slice_index cs t))
+-- the header entries of the first t of these tables, behind records that end at a place of the file
+unfoldable pub headed : ℕ → List Table → ℕ → List ℕ
+headed p ts zero = []
+headed p ts (suc t) = headed p ts t ++ (word (p + (table_in ts t).offset) ++ word (table_in ts t).slots)

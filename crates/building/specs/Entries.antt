@@ -8,9 +8,13 @@ use Rattle.building.specs.declared.entries.Entry.{Entry}
 abbrev pub slot_of : Entry → Slot
 slot_of e = record { hash = e.hash; place = e.place }
 
+-- the table of an entry's hash
+abbrev pub table_of : Entry → ℕ
+table_of e = e.hash % 256
+
 -- an entry belongs to the table of its hash
 abbrev pub belongs : ℕ → Entry → Bool
-belongs t e = e.hash % 256 == t
+belongs t e = table_of e == t
 
 -- how many of the entries belong to table t
 abbrev pub count_of : ℕ → List Entry → ℕ

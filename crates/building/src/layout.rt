@@ -1,33 +1,38 @@
-//! Inner: how many entries each table has, and where it starts.
+//! Inner: where each table goes, and how many slots it has.
 
-ghost use Rattle.std.specs.Prelude.{◌≡◌, ℕ, ◌+◌, ◌-◌, ◌*◌, ◌/◌, ◌%◌, ◌^◌, ◌<◌, ◌≤◌, length, take, sum, slice_index};
-ghost use Rattle.building.specs.Builds.{Counts};
+ghost use Rattle.std.specs.Prelude.{ℕ, ◌*◌, ◌^◌, ◌<◌, length};
+ghost use Rattle.building.specs.Builds.{TablesOf};
 
 use crate::entries::Entry;
 
-/// How many of the entries belong to each table.
-pub(crate) fn counts_of(entries: &[Entry]) -> [u32; 256]
-    requires { length entries.now < 2 ^ 32 }
-    ensures { Counts result entries.now }
-{
-    let mut counts = [0u32; 256];
-    for e in entries {
-        let t = (e.hash % 256) as usize;
-        counts[t] += 1;
-    }
-    counts
+/// A table of a file: how far behind the records it starts, and how many slots it has.
+#[derive(Clone, Copy)]
+pub(crate) struct Table {
+    pub offset: u32,
+    pub slots: u32,
 }
 
-/// Where each table starts, if the first starts at `from`.
-pub(crate) fn starts_of(from: u32, counts: &[u32; 256]) -> [u32; 256]
-    requires { from + 16 * sum counts.now < 2 ^ 32 }
-    ensures { (t : ℕ) → t < 256 → slice_index result t ≡ from + 16 * sum (take t counts.now) }
+impl Table {
+    /// A table without slots, right behind the records.
+    pub(crate) const EMPTY: Table = Table {
+        offset: 0,
+        slots: 0,
+    };
+}
+
+/// The tables of the entries: each has two slots for an entry, and they follow one another.
+pub(crate) fn tables_of(entries: &[Entry]) -> [Table; 256]
+    requires { 16 * length entries.now < 2 ^ 32 }
+    ensures { TablesOf result entries.now }
 {
-    let mut starts = [0u32; 256];
-    let mut next = from;
-    for t in 0..256 {
-        starts[t] = next;
-        next += 16 * counts[t];
+    let mut tables = [Table::EMPTY; 256];
+    for entry in entries {
+        tables[entry.table()].slots += 2;
     }
-    starts
+    let mut next = 0;
+    for table in tables.iter_mut() {
+        table.offset = next;
+        next += 8 * table.slots;
+    }
+    tables
 }

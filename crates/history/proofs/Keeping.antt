@@ -14,12 +14,10 @@ use Rattle.areas.specs.declared.area.Area.{Area}
 use Rattle.areas.proofs.Rooted.{one_root}
 use Rattle.shelf.specs.declared.fault.ShelfFault.{ShelfFault}
 use Rattle.shelf.specs.declared.fault.ShelfFault.TheVariants.{File, Size, NoRoot, Entries, Full, Small}
+use Rattle.shelf.specs.declared.refusals.Refused.{Refused as RefusedCall}
 use Rattle.shelf.specs.declared.states.Shelf.{Shelf}
 use Rattle.shelf.specs.declared.states.Draft.{Draft}
 use Rattle.shelf.specs.declared.states.Finished.{Finished}
-use Rattle.shelf.specs.declared.refusals.AddRefused.{AddRefused}
-use Rattle.shelf.specs.declared.refusals.FinishRefused.{FinishRefused}
-use Rattle.shelf.specs.declared.refusals.PublishRefused.{PublishRefused}
 use Rattle.shelf.specs.States.{Live, live_of, file_start, file_room, Begun}
 use Rattle.shelf.specs.Opens.{Opens}
 use Rattle.shelf.specs.Adds.{AddStopped, Adds}
@@ -116,10 +114,10 @@ finish_on m n d es Small a on = absurd a
 draft_same : (d : Draft) (m n : Meaning) (draft records : List Record) (g : Good (Adding d) m draft records) → InArea m d n → Same g.live m n
 draft_same d m n draft records g k = inside_same g.live m n g.long g.rooted (subst (λ (q : Live). Keeps m (Outside (file_start q) (file_room q)) n) g.told k)
 
-draft_size : (d : Draft) (m : Meaning) (draft records : List Record) → Good (Adding d) m draft records → d.sectors ≡ m.sectors
+draft_size : (d : Draft) (m : Meaning) (draft records : List Record) → Good (Adding d) m draft records → d.live.sectors ≡ m.sectors
 draft_size d m draft records g = ap (λ (q : Live). q.sectors) g.told ∙ g.rooted.sectors
 
-finished_size : (f : Finished) (m : Meaning) (draft records : List Record) → Good (Ready f) m draft records → f.sectors ≡ m.sectors
+finished_size : (f : Finished) (m : Meaning) (draft records : List Record) → Good (Ready f) m draft records → f.live.sectors ≡ m.sectors
 finished_size f m draft records g = ap (λ (q : Live). q.sectors) g.told ∙ g.rooted.sectors
 
 -- outside publications the live file stays
@@ -182,7 +180,7 @@ module _ {h : List Event} where
             (λ on. add_stands m n d e es fs f.draft r (g.ready (sym a.1.power ∙ on)) a);
       }
 
-  at_add_refused : {m n : Meaning} {d : Draft} (r : Record) (es fs : List Entry) (x : AddRefused) → Sound h (Adding d) m → Adds m d es r (Err x) n fs → Sound (then h other) (Adding x.draft) n
+  at_add_refused : {m n : Meaning} {d : Draft} (r : Record) (es fs : List Entry) (x : RefusedCall Draft) → Sound h (Adding d) m → Adds m d es r (Err x) n fs → Sound (then h other) (Adding x.draft) n
   at_add_refused {m = m} {n = n} {d = d} r es fs x f a =
       let g = f.good in
       let k : Good (Adding d) n f.draft f.records = kept_good g (Adding d) n f.draft (draft_same d m n _ _ g (add_inside m n d g.long es fs r (Err x) a)) g.told
@@ -200,7 +198,7 @@ module _ {h : List Event} where
             (λ on. finish_reads m n d es f.draft k (g.ready a.2.on) a);
       }
 
-  at_finish_refused : {m n : Meaning} {d : Draft} (es : List Entry) (x : FinishRefused) → Sound h (Adding d) m → Finishes m d es (Err x) n → Sound (then h other) (Adding x.draft) n
+  at_finish_refused : {m n : Meaning} {d : Draft} (es : List Entry) (x : RefusedCall Draft) → Sound h (Adding d) m → Finishes m d es (Err x) n → Sound (then h other) (Adding x.draft) n
   at_finish_refused {m = m} {n = n} {d = d} es x f a =
       let g = f.good in
       let k : Good (Adding d) n f.draft f.records = kept_good g (Adding d) n f.draft (draft_same d m n _ _ g (finish_inside m n d g.long es (Err x) a)) g.told
@@ -283,7 +281,7 @@ module _ {h : List Event} where
         };
       }) c.bytes))
 
-  at_publish_refused : {m n : Meaning} {k : Finished} (x : PublishRefused) → Sound h (Ready k) m → Publishes m k (Err x) n → Sound (then h (cond (ends_draft x.fault) interrupted other)) (back_to x.draft) n
+  at_publish_refused : {m n : Meaning} {k : Finished} (x : RefusedCall (Option Finished)) → Sound h (Ready k) m → Publishes m k (Err x) n → Sound (then h (cond (ends_draft x.fault) interrupted other)) (back_to x.draft) n
   at_publish_refused {m = m} {n = n} {k = k} x f p =
       let P : Meaning → Type 0 = λ q. Sound (then h (cond (ends_draft x.fault) interrupted other)) (back_to x.draft) q in
       ⊎_elim (λ e. subst P (sym e) (refused_back (ends_draft x.fault) x.draft f p.1)) (λ c. cut_back x.fault x.draft f c p.1) (refused_publish m n k x p)

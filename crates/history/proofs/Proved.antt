@@ -56,9 +56,9 @@ only_publications_change_live m n k h s t c a l hist v q r =
 
 -- a read of the root is refused by power or by its sector
 no_range : (p b : Bool) → cond p (cond b (Some (Bad 0)) None) (Some Power) ≡ Some Range → ⊥
-no_range true true e = let z : ◌≡◌ {A = ℕ} 0 1 = cc in omega arith
-no_range true false e = let z : ◌≡◌ {A = ℕ} 0 1 = cc in omega arith
-no_range false b e = let z : ◌≡◌ {A = ℕ} 0 1 = cc in omega arith
+no_range true true e = cc
+no_range true false e = cc
+no_range false b e = cc
 
 root_in_range : (m : Meaning) → 1 ≤ m.sectors → refusal m 0 512 ≡ Some Range → ⊥
 root_in_range m few e =

@@ -21,9 +21,9 @@ use Rattle.areas.specs.Geometry.{other, area_start, area_size}
 use Rattle.areas.proofs.Rooted.{root_long}
 use Rattle.shelf.specs.declared.fault.ShelfFault.{ShelfFault}
 use Rattle.shelf.specs.declared.fault.ShelfFault.TheVariants.{File, Size, NoRoot, Entries, Full, Small}
+use Rattle.shelf.specs.declared.refusals.Refused.{Refused as RefusedCall}
 use Rattle.shelf.specs.declared.states.Draft.{Draft}
 use Rattle.shelf.specs.declared.states.Finished.{Finished}
-use Rattle.shelf.specs.declared.refusals.PublishRefused.{PublishRefused}
 use Rattle.shelf.specs.Reports.{at_root}
 use Rattle.shelf.specs.States.{Live, live_at_draft, live_at_finished, file_start}
 use Rattle.shelf.specs.Finishes.{entries_of, Finishes}
@@ -48,7 +48,7 @@ finish_reads m n d es rs f h a =
     let tl : length ts ≡ d.records = length-take-le d.records es a.1 in
     let pos : d.position ≡ end rs = h.position in
     let room = d.room in
-    let few = d.few in
+    let few = d.live.few in
     let tabled : Tabled file d.position ts = a.2.tabled in
     let p0 : position file 0 ≡ d.position = tabled.positions 0 (omega arith) ∙ omega (arith, below_none ts) in
     let read : Records file 2048 (position file 0) rs = records_read file 2048 (position file 0) rs (omega arith) (finish_stands m n d es rs f h a) (sym pos ∙ sym p0) in
@@ -70,7 +70,7 @@ accepted_lawful m f rs (c, a) r =
 -- the root is written: done
 pub root_stored : (m n : Meaning) (f : Finished) → 1 ≤ m.sectors → Written m 0 (next_root f) (Ok tt) n → (n.sectors ≡ m.sectors) × (n.bytes ≡ laid m.bytes 0 (next_root f))
 root_stored m n f few w =
-    let l = root_long (other f.area) f.made in
+    let l = root_long (other f.live.root.area) f.made in
     let r : Completed m 0 (next_root f) n = piece_runs m 0 (next_root f) (Ok tt) n (omega arith) (omega arith) (omega arith) w in
     (r.sectors, r.bytes)
 
@@ -107,7 +107,7 @@ publish_stopped m n f Entries p = absurd p
 publish_stopped m n f Full p = absurd p
 publish_stopped m n f Small p = absurd p
 
-pub refused_publish : (m n : Meaning) (f : Finished) (x : PublishRefused) → Publishes m f (Err x) n → (n ≡ m) ⊎ CutAtRoot m f x.fault n
+pub refused_publish : (m n : Meaning) (f : Finished) (x : RefusedCall (Option Finished)) → Publishes m f (Err x) n → (n ≡ m) ⊎ CutAtRoot m f x.fault n
 refused_publish m n f x p = publish_stopped m n f x.fault p.0
 
 -- once the new root stands, the draft's file is live
@@ -117,24 +117,24 @@ module _ (m n : Meaning) (f : Finished) (rs : List Record) (long : Long m) (clea
 
   pub switched_rooted : Rooted n (live_after f)
   switched_rooted =
-      let s : m.sectors ≡ f.sectors = clear.1.same in
+      let s : m.sectors ≡ f.live.sectors = clear.1.same in
       record {
         sectors = sym s ∙ sym sectors;
         names = record {
-          is = relaid_root m n (other f.area) f.made some_sectors long sectors bytes;
+          is = relaid_root m n (other f.live.root.area) f.made some_sectors long sectors bytes;
           long = f.past;
-          fits = subst (λ (q : ℕ). f.made ≤ area_size q (other f.area)) (sym s ∙ sym sectors) f.room;
+          fits = subst (λ (q : ℕ). f.made ≤ area_size q (other f.live.root.area)) (sym s ∙ sym sectors) f.room;
         };
       }
 
   pub switched_long : Long n
-  switched_long = relaid_long m n (other f.area) f.made some_sectors long sectors bytes ∙ long ∙ ap (λ (q : ℕ). 512 * q) (sym sectors)
+  switched_long = relaid_long m n (other f.live.root.area) f.made some_sectors long sectors bytes ∙ long ∙ ap (λ (q : ℕ). 512 * q) (sym sectors)
 
   pub switched_lawful : Lawful (live_file n (live_after f)) rs
   switched_lawful =
-      let s : m.sectors ≡ f.sectors = clear.1.same in
-      let on = area_on f.sectors (other f.area) (omega (arith, f.past, f.room)) in
+      let s : m.sectors ≡ f.live.sectors = clear.1.same in
+      let on = area_on f.live.sectors (other f.live.root.area) (omega (arith, f.past, f.room)) in
       let room = f.room in
       let same : live_file n (live_after f) ≡ finished_file m f =
-      relaid_part m n (other f.area) f.made some_sectors long sectors bytes (area_start f.sectors (other f.area)) f.made (behind_root f.sectors (other f.area)) (omega (arith, long)) in
+      relaid_part m n (other f.live.root.area) f.made some_sectors long sectors bytes (area_start f.live.sectors (other f.live.root.area)) f.made (behind_root f.live.sectors (other f.live.root.area)) (omega (arith, long)) in
       subst (λ (q : List ℕ). Lawful q rs) (sym same) (accepted_lawful m f rs clear reads)

@@ -4,12 +4,10 @@ use Rattle.device.specs.Meanings.{Meaning, Whole}
 use Rattle.cdb.specs.Records.{Record}
 use Rattle.building.specs.declared.entries.Entry.{Entry}
 use Rattle.shelf.specs.declared.fault.ShelfFault.{ShelfFault}
+use Rattle.shelf.specs.declared.refusals.Refused.{Refused as RefusedCall}
 use Rattle.shelf.specs.declared.states.Shelf.{Shelf}
 use Rattle.shelf.specs.declared.states.Draft.{Draft}
 use Rattle.shelf.specs.declared.states.Finished.{Finished}
-use Rattle.shelf.specs.declared.refusals.AddRefused.{AddRefused}
-use Rattle.shelf.specs.declared.refusals.FinishRefused.{FinishRefused}
-use Rattle.shelf.specs.declared.refusals.PublishRefused.{PublishRefused}
 use Rattle.shelf.specs.States.{live_of, live_at_draft, live_at_finished, Begun}
 use Rattle.shelf.specs.Formats.{Formats}
 use Rattle.shelf.specs.Opens.{Opens}
@@ -36,15 +34,15 @@ pub data Moves : Meaning → State → List Entry → Request → Answer → Sta
   begun : {m : Meaning} {es : List Entry} {s : Shelf} {d : Draft} → Begun s d → Moves m (Idle s) es to_begin Done (Adding d) m es
   record_added : {m n : Meaning} {es fs : List Entry} {d e : Draft} {r : Record}
       → Adds m d es r (Ok e) n fs → Moves m (Adding d) es (to_add r) Done (Adding e) n fs
-  add_refused : {m n : Meaning} {es fs : List Entry} {d : Draft} {r : Record} (x : AddRefused)
+  add_refused : {m n : Meaning} {es fs : List Entry} {d : Draft} {r : Record} (x : RefusedCall Draft)
       → Adds m d es r (Err x) n fs → Moves m (Adding d) es (to_add r) (Refused x.fault) (Adding x.draft) n fs
   finished : {m n : Meaning} {es : List Entry} {d : Draft} {f : Finished}
       → Finishes m d es (Ok f) n → Moves m (Adding d) es to_finish Done (Ready f) n es
-  finish_refused : {m n : Meaning} {es : List Entry} {d : Draft} (x : FinishRefused)
+  finish_refused : {m n : Meaning} {es : List Entry} {d : Draft} (x : RefusedCall Draft)
       → Finishes m d es (Err x) n → Moves m (Adding d) es to_finish (Refused x.fault) (Adding x.draft) n es
   draft_published : {m n : Meaning} {es : List Entry} {f : Finished} {s : Shelf}
       → Publishes m f (Ok s) n → Moves m (Ready f) es to_publish Done (Idle s) n es
-  publish_refused : {m n : Meaning} {es : List Entry} {f : Finished} (x : PublishRefused)
+  publish_refused : {m n : Meaning} {es : List Entry} {f : Finished} (x : RefusedCall (Option Finished))
       → Publishes m f (Err x) n → Moves m (Ready f) es to_publish (Refused x.fault) (back_to x.draft) n es
   draft_abandoned : {m : Meaning} {es : List Entry} {d : Draft} {s : Shelf} → live_of s ≡ live_at_draft d → Moves m (Adding d) es to_abandon Done (Idle s) m es
   finished_abandoned : {m : Meaning} {es : List Entry} {f : Finished} {s : Shelf} → live_of s ≡ live_at_finished f → Moves m (Ready f) es to_abandon Done (Idle s) m es

@@ -16,7 +16,20 @@ pub enum State {
     Ended,
 }
 
+/// What a refused publish leaves, by the draft that it gives back.
+impl From<Option<Finished>> for State {
+    ghost use Rattle.std.specs.Prelude.{◌≡◌};
+    ghost use Rattle.history.specs.Histories.{back_to};
+
+    ghost from_gives = { λ draft state. state ≡ back_to draft };
+
+    fn from(draft: Option<Finished>) -> State {
+        draft.map_or(State::Ended, State::Ready)
+    }
+}
+
 /// A call of a history.
+// Calls are data, so that the laws can speak of every list of them.
 #[derive(Clone, Copy)]
 pub enum Call<'a> {
     Open,
@@ -29,6 +42,7 @@ pub enum Call<'a> {
 }
 
 /// What a call answered.
+// Three names say more than a `Result` in an `Option`.
 #[derive(Clone, Copy)]
 pub enum Answer {
     Done,

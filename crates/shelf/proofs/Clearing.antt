@@ -11,7 +11,7 @@ use Rattle.shelf.specs.declared.states.Finished.{Finished}
 use Rattle.shelf.specs.States.{live_at_finished, file_start}
 use Rattle.shelf.specs.Steps.{AuditsDraft}
 
-pub audits_draft : (m : Meaning) (f : Finished) (e : Extent) (r : Result Counts FileFault) → m.sectors ≡ f.sectors
+pub audits_draft : (m : Meaning) (f : Finished) (e : Extent) (r : Result Counts FileFault) → m.sectors ≡ f.live.sectors
     → e.start ≡ file_start (live_at_finished f) → e.len ≡ f.made → Audited m e r → AuditsDraft m f (result_map_both (λ x. x) (λ g. located g 256 e.start) r)
 audits_draft m f e (Ok c) s b l a = record { same = s; extent = e; start = b; len = l; audited = a }
 audits_draft m f e (Err g) s b l a = (g, ap (λ (p : ℕ). located g 256 p) b, record { same = s; extent = e; start = b; len = l; audited = a })

@@ -15,10 +15,9 @@ use Rattle.areas.specs.declared.area.Area.TheVariants.{Zero, One}
 use Rattle.areas.specs.Geometry.{other, first_sector, sectors_in, area_start, area_size}
 use Rattle.shelf.specs.declared.fault.ShelfFault.{ShelfFault}
 use Rattle.shelf.specs.declared.fault.ShelfFault.TheVariants.{File, Size, NoRoot, Entries, Full, Small}
+use Rattle.shelf.specs.declared.refusals.Refused.{Refused}
 use Rattle.shelf.specs.declared.states.Draft.{Draft}
 use Rattle.shelf.specs.declared.states.Finished.{Finished}
-use Rattle.shelf.specs.declared.refusals.AddRefused.{AddRefused}
-use Rattle.shelf.specs.declared.refusals.FinishRefused.{FinishRefused}
 use Rattle.shelf.specs.States.{live_at_draft, file_start, file_room}
 use Rattle.shelf.specs.Adds.{next_place, AddStopped, Adds}
 use Rattle.shelf.specs.Finishes.{entries_of, FinishStopped, Finishes}
@@ -59,8 +58,8 @@ module _ (m n : Meaning) (d : Draft) (long : Long m) where
   abbrev room : ℕ
   room = file_room (live_at_draft d)
 
-  pub on_device : m.sectors ≡ d.sectors → start + room ≤ length m.bytes
-  on_device s = omega (arith, area_on d.sectors (other d.area) (omega (arith, d.past, d.room)))
+  pub on_device : m.sectors ≡ d.live.sectors → start + room ≤ length m.bytes
+  on_device s = omega (arith, area_on d.live.sectors (other d.live.root.area) (omega (arith, d.past, d.room)))
 
   add_stopped_inside : (k : ℕ) (r : Record) (x : ShelfFault) → AddStopped m d k r x n → InArea m d n
   add_stopped_inside k r Size h = keeps_same m n _ h.1
@@ -68,11 +67,11 @@ module _ (m n : Meaning) (d : Draft) (long : Long m) where
   add_stopped_inside k r Full h = keeps_same m n _ h.3
   add_stopped_inside k r (File x) h =
       let fits = h.0.room in
-      refused_inside m (next_place d) (size r) h.1 n (first_sector d.sectors (other d.area)) (sectors_in d.sectors (other d.area)) (omega arith) (omega arith) h.3
+      refused_inside m (next_place d) (size r) h.1 n (first_sector d.live.sectors (other d.live.root.area)) (sectors_in d.live.sectors (other d.live.root.area)) (omega arith) (omega arith) h.3
   add_stopped_inside k r NoRoot h = absurd h
   add_stopped_inside k r Small h = absurd h
 
-  pub add_inside : (es fs : List Entry) (r : Record) (a : Result Draft AddRefused) → Adds m d es r a n fs → InArea m d n
+  pub add_inside : (es fs : List Entry) (r : Record) (a : Result Draft (Refused Draft)) → Adds m d es r a n fs → InArea m d n
   add_inside es fs r (Ok e) h =
       let fits = h.0.room in
       let o = on_device h.0.same in
@@ -86,12 +85,12 @@ module _ (m n : Meaning) (d : Draft) (long : Long m) where
       keeps_less m n _ _ h.keeps (λ k out.
       (outside_part start room (start + d.position) (16 * length es) k (omega arith) (omega arith) out, outside_part start room start 2048 k (omega arith) (omega arith) out))
   closes_inside es (Err x) l (f, inl h) =
-      refused_inside m (start + d.position) (16 * length es) f n (first_sector d.sectors (other d.area)) (sectors_in d.sectors (other d.area)) (omega arith) (omega arith) h.1
+      refused_inside m (start + d.position) (16 * length es) f n (first_sector d.live.sectors (other d.live.root.area)) (sectors_in d.live.sectors (other d.live.root.area)) (omega arith) (omega arith) h.1
   closes_inside es (Err x) l (f, inr h) =
       let past = d.past in
       let k : Meaning = h.1.between in
       keeps_both m k n _ _ _ h.1.built.keeps
-      (refused_inside k start 2048 f n (first_sector d.sectors (other d.area)) (sectors_in d.sectors (other d.area)) (omega arith) (omega arith) h.1.refused)
+      (refused_inside k start 2048 f n (first_sector d.live.sectors (other d.live.root.area)) (sectors_in d.live.sectors (other d.live.root.area)) (omega arith) (omega arith) h.1.refused)
       (λ i out. outside_part start room (start + d.position) (16 * length es) i (omega arith) (omega arith) out) (λ i out. out)
 
   entries_fit : (es : List Entry) → d.records ≤ length es → d.position + 16 * length (entries_of d es) ≤ room
@@ -105,6 +104,6 @@ module _ (m n : Meaning) (d : Draft) (long : Long m) where
   finish_stopped_inside es Full h = absurd h
   finish_stopped_inside es Small h = absurd h
 
-  pub finish_inside : (es : List Entry) (a : Result Finished FinishRefused) → Finishes m d es a n → InArea m d n
+  pub finish_inside : (es : List Entry) (a : Result Finished (Refused Draft)) → Finishes m d es a n → InArea m d n
   finish_inside es (Ok f) h = closes_inside (entries_of d es) (Ok tt) (entries_fit es h.1) h.2
   finish_inside es (Err x) h = finish_stopped_inside es x.fault h.0

@@ -1,5 +1,4 @@
 pub mod Formatted
-pub mod Closing
 pub mod Inside
 pub mod Standing
 pub mod Held

@@ -55,7 +55,7 @@ between_stands m n d rs b h = record {
 }
 
 -- the draft's position, on the device
-next_on : (m : Meaning) (d : Draft) → Long m → m.sectors ≡ d.sectors → next_place d ≤ length m.bytes
+next_on : (m : Meaning) (d : Draft) → Long m → m.sectors ≡ d.live.sectors → next_place d ≤ length m.bytes
 next_on m d long s = omega (arith, on_device m m d long s, d.room)
 
 pub add_stands : (m n : Meaning) (d e : Draft) (es fs : List Entry) (rs : List Record) (r : Record) → Stands m d rs → Adds m d es r (Ok e) n fs → Stands n e (rs ++ r ∷ [])
@@ -83,7 +83,7 @@ add_stands m n d e es fs rs r h a =
 
 -- records stand while nothing in them changes
 module _ (m n : Meaning) (d : Draft) (rs : List Record) (h : Stands m d rs) where
-  kept : (p len : ℕ) → m.sectors ≡ d.sectors → (next_place d ≤ p) ⊎ (p + len ≤ file_start (live_at_draft d) + 2048) → Keeps m (Outside p len) n → Stands n d rs
+  kept : (p len : ℕ) → m.sectors ≡ d.live.sectors → (next_place d ≤ p) ⊎ (p + len ≤ file_start (live_at_draft d) + 2048) → Keeps m (Outside p len) n → Stands n d rs
   kept p len s out k =
       let R : List ℕ = flat_map record_bytes rs in
       let on = next_on m d h.long s in
@@ -100,7 +100,7 @@ module _ (m n : Meaning) (d : Draft) (rs : List Record) (h : Stands m d rs) wher
   same_stands e = subst (λ (q : Meaning). Stands q d rs) (sym e) h
 
   -- a run that is refused with power on has met a bad sector
-  interrupted_stands : (p len : ℕ) (f : DeviceFault) → m.sectors ≡ d.sectors → (next_place d ≤ p) ⊎ (p + len ≤ file_start (live_at_draft d) + 2048) → Interrupted m p len f n → n.power ≡ true → Stands n d rs
+  interrupted_stands : (p len : ℕ) (f : DeviceFault) → m.sectors ≡ d.live.sectors → (next_place d ≤ p) ⊎ (p + len ≤ file_start (live_at_draft d) + 2048) → Interrupted m p len f n → n.power ≡ true → Stands n d rs
   interrupted_stands p len Range s out v on = absurd v
   interrupted_stands p len Power s out (inl v) on = absurd (false≢true (sym v.1 ∙ ap (λ (q : Meaning). q.power) (sym v.2) ∙ on))
   interrupted_stands p len Power s out (inr v) on = absurd (false≢true (sym v.off ∙ on))
@@ -114,12 +114,12 @@ module _ (m n : Meaning) (d : Draft) (rs : List Record) (h : Stands m d rs) wher
   add_stopped_stands k r NoRoot a on = absurd a
   add_stopped_stands k r Small a on = absurd a
 
-header_stands : (m k n : Meaning) (d : Draft) (es : List Entry) (rs : List Record) (f : DeviceFault) → Stands m d rs → m.sectors ≡ d.sectors → Built m (next_place d) es k → Interrupted k (file_start (live_at_draft d)) 2048 f n → n.power ≡ true → Stands n d rs
+header_stands : (m k n : Meaning) (d : Draft) (es : List Entry) (rs : List Record) (f : DeviceFault) → Stands m d rs → m.sectors ≡ d.live.sectors → Built m (next_place d) es k → Interrupted k (file_start (live_at_draft d)) 2048 f n → n.power ≡ true → Stands n d rs
 header_stands m k n d es rs f h s built v on =
     let hk : Stands k d rs = kept m k d rs h (next_place d) (16 * length es) s (inl (omega arith)) built.keeps in
     interrupted_stands k n d rs hk (file_start (live_at_draft d)) 2048 f (built.keeps.sectors ∙ s) (inr (omega arith)) v on
 
-closes_stands : (m n : Meaning) (d : Draft) (es : List Entry) (rs : List Record) (x : FileFault) → Stands m d rs → m.sectors ≡ d.sectors → Closes m (file_start (live_at_draft d)) d.position es (Err x) n → n.power ≡ true → Stands n d rs
+closes_stands : (m n : Meaning) (d : Draft) (es : List Entry) (rs : List Record) (x : FileFault) → Stands m d rs → m.sectors ≡ d.live.sectors → Closes m (file_start (live_at_draft d)) d.position es (Err x) n → n.power ≡ true → Stands n d rs
 closes_stands m n d es rs x h s (f, inl a) on = interrupted_stands m n d rs h (next_place d) (16 * length es) f s (inl (omega arith)) a.1 on
 closes_stands m n d es rs x h s (f, inr a) on = header_stands m a.1.between n d es rs f h s a.1.built a.1.refused on
 

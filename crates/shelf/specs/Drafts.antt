@@ -5,11 +5,10 @@ use Rattle.device.specs.Meanings.{Meaning, Whole}
 use Rattle.cdb.specs.Records.{Record}
 use Rattle.cdb.specs.Rules.{Lawful}
 use Rattle.building.specs.declared.entries.Entry.{Entry}
+use Rattle.shelf.specs.declared.refusals.Refused.{Refused}
 use Rattle.shelf.specs.declared.states.Shelf.{Shelf}
 use Rattle.shelf.specs.declared.states.Draft.{Draft}
 use Rattle.shelf.specs.declared.states.Finished.{Finished}
-use Rattle.shelf.specs.declared.refusals.AddRefused.{AddRefused}
-use Rattle.shelf.specs.declared.refusals.FinishRefused.{FinishRefused}
 use Rattle.shelf.specs.States.{live_at_finished, file_start, Begun}
 use Rattle.shelf.specs.Adds.{Adds}
 use Rattle.shelf.specs.Finishes.{Finishes}
@@ -25,9 +24,9 @@ pub data Drafted : Meaning → Draft → List Entry → List Record → Type 0 w
   begun : {m : Meaning} {s : Shelf} {d : Draft} (es : List Entry) → Whole m → Begun s d → Drafted m d es []
   meanwhile : {m n : Meaning} {d : Draft} {es : List Entry} {rs : List Record} → Drafted m d es rs → Between m n → Drafted n d es rs
   added : {m n : Meaning} {d e : Draft} {es fs : List Entry} {rs : List Record} (r : Record) → Drafted m d es rs → Adds m d es r (Ok e) n fs → Drafted n e fs (rs ++ r ∷ [])
-  add_refused : {m n : Meaning} {d : Draft} {es fs : List Entry} {rs : List Record} (r : Record) (x : AddRefused)
+  add_refused : {m n : Meaning} {d : Draft} {es fs : List Entry} {rs : List Record} (r : Record) (x : Refused Draft)
       → Drafted m d es rs → Adds m d es r (Err x) n fs → n.power ≡ true → Drafted n x.draft fs rs
-  finish_refused : {m n : Meaning} {d : Draft} {es : List Entry} {rs : List Record} (x : FinishRefused)
+  finish_refused : {m n : Meaning} {d : Draft} {es : List Entry} {rs : List Record} (x : Refused Draft)
       → Drafted m d es rs → Finishes m d es (Err x) n → n.power ≡ true → Drafted n x.draft es rs
 
 -- the file of a finished draft

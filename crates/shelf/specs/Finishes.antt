@@ -8,9 +8,9 @@ use Rattle.building.specs.declared.entries.Entry.{Entry}
 use Rattle.building.specs.Closes.{Closed, Closes}
 use Rattle.shelf.specs.declared.fault.ShelfFault.{ShelfFault}
 use Rattle.shelf.specs.declared.fault.ShelfFault.TheVariants.{File, Size, NoRoot, Entries, Full, Small}
+use Rattle.shelf.specs.declared.refusals.Refused.{Refused}
 use Rattle.shelf.specs.declared.states.Draft.{Draft}
 use Rattle.shelf.specs.declared.states.Finished.{Finished}
-use Rattle.shelf.specs.declared.refusals.FinishRefused.{FinishRefused}
 use Rattle.shelf.specs.States.{live_at_draft, file_start, Ended}
 
 -- one entry for each record of the draft, from the first on
@@ -25,15 +25,15 @@ pub record CloseStopped (m : Meaning) (start position : ℕ) (es : List Entry) (
 
 -- refused in the order 11, 24, then by the device
 abbrev pub FinishStopped : Meaning → Draft → List Entry → ShelfFault → Meaning → Type 0
-FinishStopped m d es Size n = (m.sectors ≢ d.sectors) × (n ≡ m)
-FinishStopped m d es Entries n = (m.sectors ≡ d.sectors) × (length es < d.records) × (n ≡ m)
+FinishStopped m d es Size n = (m.sectors ≢ d.live.sectors) × (n ≡ m)
+FinishStopped m d es Entries n = (m.sectors ≡ d.live.sectors) × (length es < d.records) × (n ≡ m)
 FinishStopped m d es (File x) n =
-    (m.sectors ≡ d.sectors) × (d.records ≤ length es) × CloseStopped m (file_start (live_at_draft d)) d.position (entries_of d es) x n
+    (m.sectors ≡ d.live.sectors) × (d.records ≤ length es) × CloseStopped m (file_start (live_at_draft d)) d.position (entries_of d es) x n
 FinishStopped m d es NoRoot n = ⊥
 FinishStopped m d es Full n = ⊥
 FinishStopped m d es Small n = ⊥
 
 -- done: the draft's file has its tables and its header; refused: the draft comes back, open for adding
-abbrev pub Finishes : Meaning → Draft → List Entry → Result Finished FinishRefused → Meaning → Type 0
-Finishes m d es (Ok f) n = (m.sectors ≡ d.sectors) × (d.records ≤ length es) × Closed m (file_start (live_at_draft d)) d.position (entries_of d es) n × Ended d f
+abbrev pub Finishes : Meaning → Draft → List Entry → Result Finished (Refused Draft) → Meaning → Type 0
+Finishes m d es (Ok f) n = (m.sectors ≡ d.live.sectors) × (d.records ≤ length es) × Closed m (file_start (live_at_draft d)) d.position (entries_of d es) n × Ended d f
 Finishes m d es (Err x) n = FinishStopped m d es x.fault n × (x.draft ≡ d)

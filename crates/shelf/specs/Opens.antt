@@ -10,7 +10,7 @@ use Rattle.shelf.specs.Reports.{at_root}
 
 -- the shelf of the root; 11, 21 or 22 where sector 0 cannot be read; 23 where no area and length fit its bytes
 abbrev pub Opens : Meaning → Result Shelf ShelfFault → Type 0
-Opens m (Ok s) = (refusal m 0 512 ≡ None) × (s.sectors ≡ m.sectors) × Names m s.area s.len
+Opens m (Ok s) = (refusal m 0 512 ≡ None) × (s.live.sectors ≡ m.sectors) × Names m s.live.root.area s.live.root.len
 Opens m (Err NoRoot) = (refusal m 0 512 ≡ None) × NamesNone m
 Opens m (Err (File x)) = (f : DeviceFault) × (refusal m 0 512 ≡ Some f) × (x ≡ at_root f)
 Opens m (Err Size) = ⊥

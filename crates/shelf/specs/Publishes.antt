@@ -11,23 +11,23 @@ use Rattle.auditing.specs.Audits.{Audited}
 use Rattle.areas.specs.Geometry.{other, root_bytes}
 use Rattle.shelf.specs.declared.fault.ShelfFault.{ShelfFault}
 use Rattle.shelf.specs.declared.fault.ShelfFault.TheVariants.{File, Size, NoRoot, Entries, Full, Small}
+use Rattle.shelf.specs.declared.refusals.Refused.{Refused}
 use Rattle.shelf.specs.declared.states.Shelf.{Shelf}
 use Rattle.shelf.specs.declared.states.Finished.{Finished}
-use Rattle.shelf.specs.declared.refusals.PublishRefused.{PublishRefused}
 use Rattle.shelf.specs.Reports.{shelf_report, at_root}
 use Rattle.shelf.specs.States.{Live, live_of, live_at_finished, file_start}
 
 -- the live file, once a finished draft is published: the draft's area and length
 abbrev pub live_after : Finished → Live
-live_after f = record { sectors = f.sectors; area = other f.area; len = f.made }
+live_after f = record { sectors = f.live.sectors; area = other f.live.root.area; len = f.made }
 
 -- the root that names it
 abbrev pub next_root : Finished → List ℕ
-next_root f = root_bytes (other f.area) f.made
+next_root f = root_bytes (other f.live.root.area) f.made
 
 -- the audit of the draft's file, on a device of the draft's size, answers r
 pub record DraftAudited (m : Meaning) (f : Finished) (r : Result Counts FileFault) : Type 0 where
-  pub same : m.sectors ≡ f.sectors
+  pub same : m.sectors ≡ f.live.sectors
   pub extent : Extent
   pub start : extent.start ≡ file_start (live_at_finished f)
   pub len : extent.len ≡ f.made
@@ -47,7 +47,7 @@ NotSwitched m f x n = (g : DeviceFault) × (x ≡ at_root g) × Accepted m f × 
 
 -- refused in the order 11, then as the audit refuses, then by the device at the root
 abbrev pub PublishStopped : Meaning → Finished → ShelfFault → Meaning → Type 0
-PublishStopped m f Size n = (m.sectors ≢ f.sectors) × (n ≡ m)
+PublishStopped m f Size n = (m.sectors ≢ f.live.sectors) × (n ≡ m)
 PublishStopped m f (File x) n = NotAccepted m f x n ⊎ NotSwitched m f x n
 PublishStopped m f NoRoot n = ⊥
 PublishStopped m f Entries n = ⊥
@@ -63,6 +63,6 @@ abbrev pub given_back : ShelfFault → Finished → Option Finished
 given_back x f = cond (ends_draft x) None (Some f)
 
 -- done: the file is accepted, and one write has put the root that names it; refused: the finished draft comes back, unless power is off
-abbrev pub Publishes : Meaning → Finished → Result Shelf PublishRefused → Meaning → Type 0
+abbrev pub Publishes : Meaning → Finished → Result Shelf (Refused (Option Finished)) → Meaning → Type 0
 Publishes m f (Ok s) n = Accepted m f × Written m 0 (next_root f) (Ok tt) n × (live_of s ≡ live_after f)
 Publishes m f (Err x) n = PublishStopped m f x.fault n × (x.draft ≡ given_back x.fault f)

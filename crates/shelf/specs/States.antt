@@ -3,6 +3,7 @@ use Rattle.std.specs.Prelude.{◌≡◌, ℕ, ◌+◌, ◌*◌}
 use Rattle.cdb.specs.Records.{Record, size}
 use Rattle.file.specs.declared.extents.Extent.{Extent}
 use Rattle.areas.specs.declared.area.Area.{Area}
+use Rattle.shelf.specs.declared.live.LiveFile.{LiveFile}
 use Rattle.shelf.specs.declared.states.Shelf.{Shelf}
 use Rattle.shelf.specs.declared.states.Draft.{Draft}
 use Rattle.shelf.specs.declared.states.Finished.{Finished}
@@ -14,14 +15,17 @@ pub record Live : Type 0 where
   pub area : Area
   pub len : ℕ
 
+abbrev pub live_in : LiveFile → Live
+live_in l = record { sectors = l.sectors; area = l.root.area; len = l.root.len }
+
 abbrev pub live_of : Shelf → Live
-live_of s = record { sectors = s.sectors; area = s.area; len = s.len }
+live_of s = live_in s.live
 
 abbrev pub live_at_draft : Draft → Live
-live_at_draft d = record { sectors = d.sectors; area = d.area; len = d.len }
+live_at_draft d = live_in d.live
 
 abbrev pub live_at_finished : Finished → Live
-live_at_finished f = record { sectors = f.sectors; area = f.area; len = f.len }
+live_at_finished f = live_in f.live
 
 -- the extent of the live file
 abbrev pub LiveExtent : Live → Extent → Type 0

@@ -29,7 +29,7 @@ Stores m d entries r (Err x) n = AddStopped m d entries r x n
 
 -- the tables and the header are written, or refused
 abbrev pub EndsFile : Meaning → Draft → List Entry → Result (Unit {0}) ShelfFault → Meaning → Type 0
-EndsFile m d es (Ok _) n = (m.sectors ≡ d.sectors) × (d.records ≤ length es) × Closed m (file_start (live_at_draft d)) d.position (entries_of d es) n
+EndsFile m d es (Ok _) n = (m.sectors ≡ d.live.sectors) × (d.records ≤ length es) × Closed m (file_start (live_at_draft d)) d.position (entries_of d es) n
 EndsFile m d es (Err x) n = FinishStopped m d es x n
 
 -- the tables and the header of the file at a place are written, or refused by the device

@@ -1,15 +1,13 @@
 //! Adding a record to a draft.
 
-ghost use Rattle.std.specs.Prelude.{◌≡◌, ℕ, ◌+◌, ◌-◌, ◌*◌, ◌/◌, ◌%◌, ◌^◌, ◌<◌, ◌≤◌, nat_le};
-ghost use Rattle.device.specs.Meanings.{Whole};
+ghost use Rattle.std.specs.Prelude.{◌≡◌, ◌+◌, ◌*◌, nat_le};
 ghost use Rattle.shelf.specs.States.{live_at_draft, file_room};
 ghost use Rattle.shelf.specs.Adds.{Adds};
 ghost use Rattle.shelf.specs.Steps.{Stores};
 
 use crate::fault::ShelfFault;
-use crate::refusals::AddRefused;
+use crate::refusals::{AddRefused, Refused};
 use crate::states::Draft;
-use areas::places::area_size;
 use building::entries::Entry;
 use cdb::hashing::hash;
 use device::device::{Device, WritableDevice};
@@ -20,7 +18,7 @@ use writing::records::write_record;
 fn has_room(draft: &Draft, key: usize, value: usize) -> bool
     ensures { result ≡ nat_le (draft.now.position + (8 + (key + value)) + 16 * (draft.now.records + 1)) (file_room (live_at_draft draft.now)) }
 {
-    let room = area_size(draft.sectors, draft.area.other()) as usize;
+    let room = draft.live.file_room() as usize;
     if key > room || value > room {
         return false;
     }
@@ -35,13 +33,9 @@ fn store<D: WritableDevice>(
     key: &[u8],
     value: &[u8],
 ) -> Result<(), ShelfFault>
-    requires { D.Device.sound d.old }
     ensures stores { Stores (D.Device.meaning d.old) draft.now entries (record { key = key.entry.now; data' = value.now }) result (D.Device.meaning d.new) }
-    ensures whole { Whole (D.Device.meaning d.old) }
-    ensures still { Whole (D.Device.meaning d.new) }
-    ensures sound { D.Device.sound d.new }
 {
-    if d.size() != draft.sectors {
+    if d.size() != draft.live.sectors {
         return Err(ShelfFault::Size);
     }
     if draft.records as usize >= entries {
@@ -50,7 +44,7 @@ fn store<D: WritableDevice>(
     if !has_room(draft, key.len(), value.len()) {
         return Err(ShelfFault::Full);
     }
-    let start = draft.file_start();
+    let start = draft.live.file_start();
     add_place(
         write_record(d, start, draft.position, key, value),
         256,
@@ -68,35 +62,20 @@ impl Draft {
         key: &[u8],
         value: &[u8],
     ) -> Result<Draft, AddRefused>
-        requires { D.Device.sound d.old }
         ensures adds { Adds (D.Device.meaning d.old) self entries.old (record { key = key.entry.now; data' = value.now }) result (D.Device.meaning d.new) entries.new }
-        ensures whole { Whole (D.Device.meaning d.old) }
-        ensures still { Whole (D.Device.meaning d.new) }
-        ensures sound { D.Device.sound d.new }
     {
-        match store(d, &self, entries.len(), key, value) {
-            Ok(()) => {
-                let Draft {
-                    sectors,
-                    area,
-                    len,
-                    position,
-                    records,
-                } = self;
-                entries[records as usize] = Entry {
-                    hash: hash(key),
-                    place: position,
-                };
-                let size = 8 + (key.len() as u32 + value.len() as u32);
-                Ok(Draft {
-                    sectors,
-                    area,
-                    len,
-                    position: position + size,
-                    records: records + 1,
-                })
-            }
-            Err(fault) => Err(AddRefused { fault, draft: self }),
+        if let Err(fault) = store(d, &self, entries.len(), key, value) {
+            return Err(Refused { fault, draft: self });
         }
+        entries[self.records as usize] = Entry {
+            hash: hash(key),
+            place: self.position,
+        };
+        let size = 8 + (key.len() as u32 + value.len() as u32);
+        Ok(Draft {
+            live: self.live,
+            position: self.position + size,
+            records: self.records + 1,
+        })
     }
 }

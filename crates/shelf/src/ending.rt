@@ -1,10 +1,11 @@
 //! A draft with its tables and its header.
 
 ghost use Rattle.std.specs.Prelude.{◌≡◌};
+ghost use Rattle.areas.specs.Geometry.{other};
 ghost use Rattle.shelf.specs.States.{LiveExtent, live_of, live_at_finished, file_start};
 
 use crate::states::{Finished, Shelf};
-use areas::places::area_start;
+use areas::roots::Root;
 use file::extents::Extent;
 
 impl Finished {
@@ -12,10 +13,7 @@ impl Finished {
     pub fn live(&self) -> Extent
         ensures { LiveExtent (live_at_finished self.now) result }
     {
-        Extent {
-            start: area_start(self.sectors, self.area),
-            len: self.len,
-        }
+        self.live.extent()
     }
 
     /// The extent of the draft's file.
@@ -24,7 +22,18 @@ impl Finished {
         ensures len { result.len ≡ self.now.made }
     {
         Extent {
-            start: area_start(self.sectors, self.area.other()),
+            start: self.live.file_start(),
+            len: self.made,
+        }
+    }
+
+    /// The root that names the draft's file.
+    pub(crate) fn next_root(&self) -> Root
+        ensures area { result.area ≡ other self.now.live.root.area }
+        ensures len { result.len ≡ self.now.made }
+    {
+        Root {
+            area: self.live.root.area.other(),
             len: self.made,
         }
     }
@@ -33,12 +42,6 @@ impl Finished {
     pub fn abandon(self) -> Shelf
         ensures { live_of result ≡ live_at_finished self }
     {
-        let Finished {
-            sectors,
-            area,
-            len,
-            made: _,
-        } = self;
-        Shelf { sectors, area, len }
+        Shelf { live: self.live }
     }
 }

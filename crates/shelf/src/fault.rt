@@ -3,7 +3,9 @@
 ghost use Rattle.std.specs.Prelude.{◌≡◌};
 ghost use Rattle.shelf.specs.declared.fault.ShelfFault.TheVariants.{File as by_file};
 ghost use Rattle.shelf.specs.Reports.{shelf_report};
+ghost use Rattle.shelf.specs.Publishes.{ends_draft};
 
+use faults::device::DeviceFault;
 use faults::file::{FileFault, Located};
 use faults::report::Report;
 
@@ -25,37 +27,34 @@ pub enum ShelfFault {
 }
 
 impl ShelfFault {
-    /// Its number, table and place.
-    pub fn report(&self) -> Report
-        ensures { result ≡ shelf_report self.now }
+    /// Whether a refused publish ends the draft: power is off then.
+    pub(crate) fn ends_draft(&self) -> bool
+        ensures { result ≡ ends_draft self.now }
     {
-        match *self {
-            ShelfFault::File(below) => below.fault.report(),
-            ShelfFault::Size => Report {
-                number: 11,
-                table: 256,
-                place: 0,
-            },
-            ShelfFault::NoRoot => Report {
-                number: 23,
-                table: 256,
-                place: 0,
-            },
-            ShelfFault::Entries => Report {
-                number: 24,
-                table: 256,
-                place: 0,
-            },
-            ShelfFault::Full => Report {
-                number: 25,
-                table: 256,
-                place: 0,
-            },
-            ShelfFault::Small => Report {
-                number: 28,
-                table: 256,
-                place: 0,
-            },
+        match self {
+            ShelfFault::File(
+                Located {
+                    fault: FileFault::Device(below),
+                    ..
+                },
+            ) => below.fault == DeviceFault::Power,
+            _ => false,
+        }
+    }
+}
+
+/// A fault is told by its number, table and place.
+impl From<ShelfFault> for Report {
+    ghost from_gives = { λ f r. r ≡ shelf_report f };
+
+    fn from(fault: ShelfFault) -> Report {
+        match fault {
+            ShelfFault::File(below) => Report::from(below.fault),
+            ShelfFault::Size => Report::bare(11),
+            ShelfFault::NoRoot => Report::bare(23),
+            ShelfFault::Entries => Report::bare(24),
+            ShelfFault::Full => Report::bare(25),
+            ShelfFault::Small => Report::bare(28),
         }
     }
 }

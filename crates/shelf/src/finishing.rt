@@ -1,13 +1,12 @@
 //! Finishing a draft.
 
-ghost use Rattle.std.specs.Prelude.{◌≡◌, ℕ, ◌+◌, ◌-◌, ◌*◌, ◌/◌, ◌%◌, ◌^◌, ◌<◌, ◌≤◌, length};
-ghost use Rattle.device.specs.Meanings.{Whole};
+ghost use Rattle.std.specs.Prelude.{◌+◌, ◌*◌, ◌≤◌, length};
 ghost use Rattle.shelf.specs.Finishes.{Finishes};
 ghost use Rattle.shelf.specs.Drafts.{FinishAfterAddsIsLawful};
 ghost use Rattle.shelf.specs.Steps.{ClosesFile, EndsFile};
 
 use crate::fault::ShelfFault;
-use crate::refusals::FinishRefused;
+use crate::refusals::{FinishRefused, Refused};
 use crate::states::{Draft, Finished};
 use building::closing::close;
 use building::entries::Entry;
@@ -21,13 +20,9 @@ fn close_at<D: WritableDevice>(
     position: u32,
     entries: &[Entry],
 ) -> Result<(), Located<FileFault>>
-    requires sound { D.Device.sound d.old }
-    requires whole { Whole (D.Device.meaning d.old) }
     requires within { start + (position + 16 * length entries.now) ≤ 512 * (D.Device.meaning d.old).sectors }
     requires past { 2048 ≤ position }
     ensures closes { ClosesFile (D.Device.meaning d.old) start position entries.now result (D.Device.meaning d.new) }
-    ensures whole { Whole (D.Device.meaning d.new) }
-    ensures sound { D.Device.sound d.new }
 {
     add_place(close(d, start, position, entries), 256, start as u64)
 }
@@ -38,20 +33,16 @@ fn end_file<D: WritableDevice>(
     draft: &Draft,
     entries: &[Entry],
 ) -> Result<(), ShelfFault>
-    requires { D.Device.sound d.old }
     ensures ends { EndsFile (D.Device.meaning d.old) draft.now entries.now result (D.Device.meaning d.new) }
-    ensures whole { Whole (D.Device.meaning d.old) }
-    ensures still { Whole (D.Device.meaning d.new) }
-    ensures sound { D.Device.sound d.new }
 {
-    if d.size() != draft.sectors {
+    if d.size() != draft.live.sectors {
         return Err(ShelfFault::Size);
     }
     let n = draft.records as usize;
     if entries.len() < n {
         return Err(ShelfFault::Entries);
     }
-    close_at(d, draft.file_start(), draft.position, &entries[0..n])?;
+    close_at(d, draft.live.file_start(), draft.position, &entries[..n])?;
     Ok(())
 }
 
@@ -67,31 +58,16 @@ impl Draft {
         d: &mut D,
         entries: &[Entry],
     ) -> Result<Finished, FinishRefused>
-        requires { D.Device.sound d.old }
         ensures finishes { Finishes (D.Device.meaning d.old) self entries.now result (D.Device.meaning d.new) }
         ensures lawful { FinishAfterAddsIsLawful }
-        ensures whole { Whole (D.Device.meaning d.old) }
-        ensures still { Whole (D.Device.meaning d.new) }
-        ensures sound { D.Device.sound d.new }
     {
         know_lawful();
-        match end_file(d, &self, entries) {
-            Ok(()) => {
-                let Draft {
-                    sectors,
-                    area,
-                    len,
-                    position,
-                    records,
-                } = self;
-                Ok(Finished {
-                    sectors,
-                    area,
-                    len,
-                    made: position + 16 * records,
-                })
-            }
-            Err(fault) => Err(FinishRefused { fault, draft: self }),
+        if let Err(fault) = end_file(d, &self, entries) {
+            return Err(Refused { fault, draft: self });
         }
+        Ok(Finished {
+            live: self.live,
+            made: self.position + 16 * self.records,
+        })
     }
 }

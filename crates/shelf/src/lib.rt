@@ -7,6 +7,7 @@ pub mod ending;
 pub mod fault;
 pub mod finishing;
 pub mod formatting;
+pub mod live;
 pub mod opening;
 pub mod publishing;
 pub mod refusals;

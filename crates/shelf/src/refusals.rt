@@ -3,23 +3,19 @@
 use crate::fault::ShelfFault;
 use crate::states::{Draft, Finished};
 
-/// A refused add, with its draft.
+/// A refused call on a draft, with the draft as it comes back.
+// The calls do not refuse by `?`: a refusal gives the draft back, and a closure for it would take the draft from the code behind.
 #[derive(Drop)]
-pub struct AddRefused {
+pub struct Refused<S> {
     pub fault: ShelfFault,
-    pub draft: Draft,
+    pub draft: S,
 }
+
+/// A refused add, with its draft.
+pub type AddRefused = Refused<Draft>;
 
 /// A refused finish, with its draft, open for adding.
-#[derive(Drop)]
-pub struct FinishRefused {
-    pub fault: ShelfFault,
-    pub draft: Draft,
-}
+pub type FinishRefused = Refused<Draft>;
 
 /// A refused publish, with its finished draft, unless 21 ended it.
-#[derive(Drop)]
-pub struct PublishRefused {
-    pub fault: ShelfFault,
-    pub draft: Option<Finished>,
-}
+pub type PublishRefused = Refused<Option<Finished>>;

@@ -3,50 +3,36 @@
 ghost use Rattle.std.specs.Prelude.{◌+◌, ◌*◌, ◌≤◌};
 ghost use Rattle.areas.specs.Geometry.{other, area_size};
 
-use areas::area::Area;
+use crate::live::LiveFile;
+
+// Each state has `live`, and both drafts have `abandon`, as methods of their own: a trait would be longer, and callers would have to
+// import it.
 
 /// A shelf at rest.
 #[derive(Drop)]
 pub struct Shelf {
-    /// The sectors of its device.
-    pub(crate) sectors: u32,
-    /// The live area.
-    pub(crate) area: Area,
-    /// The live length.
-    pub(crate) len: u32,
-    ghost few: { sectors ≤ 8388607 },
-    ghost long: { 2048 ≤ len },
-    ghost fits: { len ≤ area_size sectors area },
+    pub(crate) live: LiveFile,
 }
 
 /// A draft in the area beside the live one, to which records can be added.
+// The entries of its records lie in memory that is lent to each call: there is no heap, and a draft would keep the loan while it rests.
 #[derive(Drop)]
 pub struct Draft {
-    pub(crate) sectors: u32,
-    pub(crate) area: Area,
-    pub(crate) len: u32,
+    pub(crate) live: LiveFile,
     /// Where the next record goes, in the draft's file.
     pub(crate) position: u32,
     /// How many records it has.
     pub(crate) records: u32,
-    ghost few: { sectors ≤ 8388607 },
-    ghost long: { 2048 ≤ len },
-    ghost fits: { len ≤ area_size sectors area },
     ghost past: { 2048 ≤ position },
-    ghost room: { position + 16 * records ≤ area_size sectors (other area) },
+    ghost room: { position + 16 * records ≤ area_size live.sectors (other live.root.area) },
 }
 
 /// A draft with its tables and its header.
 #[derive(Drop)]
 pub struct Finished {
-    pub(crate) sectors: u32,
-    pub(crate) area: Area,
-    pub(crate) len: u32,
+    pub(crate) live: LiveFile,
     /// The length of the draft's file.
     pub(crate) made: u32,
-    ghost few: { sectors ≤ 8388607 },
-    ghost long: { 2048 ≤ len },
-    ghost fits: { len ≤ area_size sectors area },
     ghost past: { 2048 ≤ made },
-    ghost room: { made ≤ area_size sectors (other area) },
+    ghost room: { made ≤ area_size live.sectors (other live.root.area) },
 }

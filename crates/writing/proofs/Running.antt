@@ -1,11 +1,12 @@
 -- Runs of writes, one after another.
 use Rattle.std.proofs.Common.{◌≡◌, ℕ, ◌+◌, ◌-◌, ◌*◌, ◌/◌, ◌%◌, ◌<◌, ◌≤◌, Bool, true, false, cond, ltb, List, [], ◌++◌, length, take, drop, Some, None, Ok, Err, Option, Result, sym, refl, ap, ◌∙◌, subst, inl, inr, ⊎_elim, arith, take-add, rules}
 use mathlib.Core.Bool.{false≢true}
-use Rattle.std.proofs.lemmas.List.{places, same_lists, length-append, length-take-le, length-drop, append_assoc, take_at, drop_at, drop-drop, take_all}
+use Rattle.std.proofs.lemmas.List.{places, same_lists, length-append, length-take-le, length-drop, append_assoc, take_at, drop_at, drop-drop}
 use Rattle.std.proofs.lemmas.Bool.{cases_lt, cases_eq, ltb-true, ltb-false}
 use Rattle.byte_lists.specs.Bytes.{laid}
 use Rattle.faults.specs.declared.device.DeviceFault.{DeviceFault}
 use Rattle.faults.specs.declared.device.DeviceFault.TheVariants.{Range, Power, Bad}
+use Rattle.device.specs.declared.pieces.Piece.{Piece}
 use Rattle.device.specs.Meanings.{Meaning, Condition, Whole, Writes, endless, some, is_bad, spoils, refusal, refuses, spent, Cut, stored, Spends, WritesBy, Written}
 use Rattle.writing.specs.Runs.{Touches, Outside, Used, Counted, Completed, Stopped, Interrupted, Runs}
 use Rattle.writing.proofs.Keeping.{used_none, used_both, used_less, counted_before, keeps_all, keeps_both, keeps_less, outside_part, completed_keeps}
@@ -227,31 +228,24 @@ runs_both m n o p us vs (Err f) h w v =
     let P : ℕ → Type 0 = λ q. Interrupted m p q f o in
     subst P (sym (length-append us vs)) (interrupted_later m n o p us (length vs) f h w v)
 
--- the first of two runs is refused
-pub both_interrupted : (m o : Meaning) (p : ℕ) (us vs : List ℕ) (f : DeviceFault) → Interrupted m p (length us) f o → Interrupted m p (length (us ++ vs)) f o
-both_interrupted m o p us vs f h = interrupted_early m p (length us) (length (us ++ vs)) f o (omega (arith, length-append us vs)) h
-
 -- one piece more
-pub run_more : (m n o : Meaning) (p i k : ℕ) (ys zs : List ℕ) (r : Answer) → Whole m → p + length ys ≤ 512 * m.sectors
-    → Completed m p (take i ys) n → i + k ≤ length ys → 0 < k → (p + i) % 512 + k ≤ 512 → zs ≡ take k (drop i ys)
-    → Written n (p + i) zs r o → Runs m p (take (i + k) ys) r o
-run_more m n o p i k ys zs r h l w u v x e t =
-    let a : length (take i ys) ≡ i = length-take-le i ys (omega arith) in
-    let b : length zs ≡ k = ap length e ∙ length-take-le k (drop i ys) (omega (arith, length-drop i ys)) in
+pub run_more : (m n o : Meaning) (p : ℕ) (w : Piece) (ys zs : List ℕ) (r : Answer) → Whole m → p + length ys ≤ 512 * m.sectors → Completed m p (take w.from ys) n
+    → w.place ≡ p + w.from → w.to ≤ length ys → zs ≡ take (w.to - w.from) (drop w.from ys) → Written n w.place zs r o → Runs m p (take w.to ys) r o
+run_more m n o p w ys zs r h l done at u e t =
+    let us : List ℕ = take w.from ys in
+    let a : length us ≡ w.from = length-take-le w.from ys (omega arith) in
+    let b : length zs ≡ w.to - w.from = ap length e ∙ length-take-le (w.to - w.from) (drop w.from ys) (omega (arith, length-drop w.from ys)) in
     let long : length m.bytes ≡ 512 * m.sectors = h.long in
-    let s : n.sectors ≡ m.sectors = w.sectors in
-    let c : Runs n (p + i) zs r o = piece_runs n (p + i) zs r o (omega arith) (omega arith) (omega arith) t in
-    let P : ℕ → Type 0 = λ q. Runs n (p + q) zs r o in
-    let d : Runs m p (take i ys ++ zs) r o = runs_both m n o p (take i ys) zs r (omega arith) w (subst P (sym a) c) in
+    let s : n.sectors ≡ m.sectors = done.sectors in
+    let c : Runs n w.place zs r o = piece_runs n w.place zs r o (omega arith) (omega arith) (omega arith) t in
+    let P : ℕ → Type 0 = λ q. Runs n q zs r o in
+    let d : Runs m p (us ++ zs) r o = runs_both m n o p us zs r (omega arith) done (subst P (at ∙ ap (λ (q : ℕ). p + q) (sym a)) c) in
     let Q : List ℕ → Type 0 = λ q. Runs m p q r o in
-    subst Q (ap (λ (q : List ℕ). take i ys ++ q) e ∙ sym (take-add i k ys)) d
+    let z : w.from + (w.to - w.from) ≡ w.to = omega arith in
+    subst Q (ap (λ (q : List ℕ). us ++ q) e ∙ sym (take-add w.from (w.to - w.from) ys) ∙ ap (λ (q : ℕ). take q ys) z) d
 
-pub run_interrupted : (m n o : Meaning) (p i k : ℕ) (ys zs : List ℕ) (f : DeviceFault) → Whole m → p + length ys ≤ 512 * m.sectors
-    → Completed m p (take i ys) n → i + k ≤ length ys → 0 < k → (p + i) % 512 + k ≤ 512 → zs ≡ take k (drop i ys)
-    → Written n (p + i) zs (Err f) o → Interrupted m p (length ys) f o
-run_interrupted m n o p i k ys zs f h l w u v x e t =
-    let a : length (take (i + k) ys) ≡ i + k = length-take-le (i + k) ys u in
-    interrupted_early m p (length (take (i + k) ys)) (length ys) f o (omega arith) (run_more m n o p i k ys zs (Err f) h l w u v x e t)
-
-pub run_all : (m n : Meaning) (p i : ℕ) (ys : List ℕ) → length ys ≤ i → Completed m p (take i ys) n → Completed m p ys n
-run_all m n p i ys h w = let P : List ℕ → Type 0 = λ q. Completed m p q n in subst P (take_all i ys h) w
+pub run_interrupted : (m n o : Meaning) (p : ℕ) (w : Piece) (ys zs : List ℕ) (f : DeviceFault) → Whole m → p + length ys ≤ 512 * m.sectors → Completed m p (take w.from ys) n
+    → w.place ≡ p + w.from → w.to ≤ length ys → zs ≡ take (w.to - w.from) (drop w.from ys) → Written n w.place zs (Err f) o → Interrupted m p (length ys) f o
+run_interrupted m n o p w ys zs f h l done at u e t =
+    let a : length (take w.to ys) ≡ w.to = length-take-le w.to ys u in
+    interrupted_early m p (length (take w.to ys)) (length ys) f o (omega arith) (run_more m n o p w ys zs (Err f) h l done at u e t)
