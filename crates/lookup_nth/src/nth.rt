@@ -21,20 +21,17 @@ fn nth_from<D: Device>(
     ensures nth { NthFrom (D.Device.meaning d.old) key.entry.bytes.now cursor n result }
     ensures same { D.Device.meaning d.new ≡ D.Device.meaning d.old }
 {
-    // The count goes down by hand, so that advance is called in one place: a range, and one more call after it, takes a seventh more time.
     let mut at = cursor;
-    let mut left = n;
-    loop {
+    let mut found = None;
+    for _ in 0..=n {
         let step = advance(d, at, key)?;
-        let Some(found) = step.found else {
+        let Some(data) = step.found else {
             return Ok(None);
         };
-        if left == 0 {
-            return Ok(Some(found));
-        }
-        left -= 1;
+        found = Some(data);
         at.probed = step.probed;
     }
+    Ok(found)
 }
 
 /// The place and the length of the data of record `n` of a key, counted from 0 in file order, or none where the key has no

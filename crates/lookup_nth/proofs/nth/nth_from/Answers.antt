@@ -1,4 +1,4 @@
-use Rattle.std.proofs.Common.{◌≡◌, ℕ, List, Some, None, Ok, Err, Option, Result, refl, ◌∙◌, subst, arith}
+use Rattle.std.proofs.Common.{◌≡◌, ℕ, ◌+◌, ◌-◌, List, Some, None, Ok, Err, Option, Result, refl, ◌∙◌, subst, arith}
 use Rattle.std.proofs.lemmas.Result.{err_from_is_err_and}
 use Rattle.faults.specs.declared.file.FileFault.{FileFault}
 use Rattle.device.specs.Meanings.{Meaning}
@@ -11,8 +11,11 @@ use Rattle.lookup_nth.specs.Nths.{NthFrom}
 use Rattle.lookup_nth.proofs.Numbered.{from_later, from_here}
 use Rattle.lookup_nth.proofs.nth.nth_from.Goals as goal
 
-pub loop-step-init : goal.loop-step-init
-loop-step-init g c = (refl, λ r n. n)
+pub loop-init : goal.loop-init
+loop-init g c =
+    let m : Meaning = g.D.Device.meaning c.args.d.now in
+    let z : c.args.n - 0 ≡ c.args.n = omega arith in
+    record { same = refl; going = λ r n. subst (λ (k : ℕ). NthFrom m c.args.key.bytes.now c.args.cursor k r) z n }
 
 -- what a step answered, on the device as it was
 module _ (m n : Meaning) (u : Cursor) (key : List ℕ) (same : n ≡ m) where
@@ -25,37 +28,43 @@ module _ (m n : Meaning) (u : Cursor) (key : List ℕ) (same : n ≡ m) where
 pub returns-in_err-step : goal.returns-in_err-step
 returns-in_err-step g c =
     let m : Meaning = g.D.Device.meaning c.args.d.now in
-    let inv = c.loop-step.invariant in
+    let inv = c.loop.invariant in
     let r = err_from_is_err_and c.from_residual.result c.from_residual.ensures.1 in
-    let a = denied m _ c.loop-step.at c.args.key.bytes.now inv.0 c.advance.result _ c.in_err-step.was c.advance.ensures.answer in
-    record { nth = rw (r.1, r.2) (inv.1 _ (nths.refused a)); same = c.advance.ensures.same ∙ inv.0 }
+    let a = denied m _ c.loop.at c.args.key.bytes.now inv.same c.advance.result _ c.in_err-step.was c.advance.ensures.answer in
+    record { nth = rw (r.1, r.2) (inv.going _ (nths.refused a)); same = c.advance.ensures.same ∙ inv.same }
 
 pub returns-in_default : goal.returns-in_default
 returns-in_default g c =
     let m : Meaning = g.D.Device.meaning c.args.d.now in
-    let inv = c.loop-step.invariant in
-    let a = advanced m _ c.loop-step.at c.args.key.bytes.now inv.0 c.advance.result c.in_ok-step.step c.in_ok-step.was c.advance.ensures.answer None c.in_default.is in
-    record { nth = inv.1 (Ok None) (nths.ended a); same = c.advance.ensures.same ∙ inv.0 }
+    let inv = c.loop.invariant in
+    let a = advanced m _ c.loop.at c.args.key.bytes.now inv.same c.advance.result c.in_ok-step.step c.in_ok-step.was c.advance.ensures.answer None c.in_default.is in
+    record { nth = inv.going (Ok None) (nths.ended a); same = c.advance.ensures.same ∙ inv.same }
 
-pub returns-then-left-eq0 : goal.returns-then-left-eq0
-returns-then-left-eq0 g c =
+pub loop-preserved : goal.loop-preserved
+loop-preserved g c =
     let m : Meaning = g.D.Device.meaning c.args.d.now in
-    let inv = c.loop-step.invariant in
-    let u : Cursor = c.loop-step.at in
+    let key : List ℕ = c.args.key.bytes.now in
+    let inv = c.loop.invariant in
+    let u : Cursor = c.loop.at in
     let s : Step = c.in_ok-step.step in
-    let a = advanced m _ u c.args.key.bytes.now inv.0 c.advance.result s c.in_ok-step.was c.advance.ensures.answer (Some c.in-Some.found) c.in-Some.is in
+    let left : ℕ = c.args.n - c.loop.counter in
+    let a = advanced m _ u key inv.same c.advance.result s c.in_ok-step.was c.advance.ensures.answer (Some c.in-Some.data) c.in-Some.is in
     record {
-      nth = inv.1 _ (from_here m c.args.key.bytes.now u (probed_to u s.probed) c.loop-step.left c.in-Some.found c.if-left-eq0.true a);
-      same = c.advance.ensures.same ∙ inv.0;
+      same = c.advance.ensures.same ∙ inv.same;
+      going = λ r n.
+          let z : c.args.n - (c.loop.counter + 1) ≡ left - 1 = omega arith in
+          inv.going r (from_later m key u (probed_to u s.probed) left c.in-Some.data (omega arith) a r (subst (λ (k : ℕ). NthFrom m key (probed_to u s.probed) k r) z n));
     }
 
-pub loop-step-preserved : goal.loop-step-preserved
-loop-step-preserved g c =
+pub returns-in-Some : goal.returns-in-Some
+returns-in-Some g c =
     let m : Meaning = g.D.Device.meaning c.args.d.now in
-    let inv = c.loop-step.invariant in
-    let u : Cursor = c.loop-step.at in
+    let key : List ℕ = c.args.key.bytes.now in
+    let inv = c.loop.invariant in
+    let u : Cursor = c.loop.at in
     let s : Step = c.in_ok-step.step in
-    let a = advanced m _ u c.args.key.bytes.now inv.0 c.advance.result s c.in_ok-step.was c.advance.ensures.answer (Some c.in-Some.found) c.in-Some.is in (
-      c.advance.ensures.same ∙ inv.0,
-      λ r n. inv.1 r (from_later m c.args.key.bytes.now u (probed_to u s.probed) c.loop-step.left c.in-Some.found (omega arith) a r n),
-    )
+    let a = advanced m _ u key inv.same c.advance.result s c.in_ok-step.was c.advance.ensures.answer (Some c.in-Some.data) c.in-Some.is in
+    record {
+      nth = inv.going _ (from_here m key u (probed_to u s.probed) (c.args.n - c.loop.counter) c.in-Some.data (omega arith) a);
+      same = c.advance.ensures.same ∙ inv.same;
+    }
