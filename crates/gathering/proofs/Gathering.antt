@@ -1,6 +1,7 @@
 -- In a lawful file the data of a key are gathered whole and in order.
-use Rattle.std.proofs.Common.{◌≡◌, ℕ, ◌+◌, ◌-◌, ◌<◌, ◌≤◌, true, false, List, [], ◌∷◌, ◌++◌, map, filter, length, Vec, Some, None, Ok, Err, Option, Result, sym, refl, ap, ◌∙◌, subst, ⊎_elim, arith}
+use Rattle.std.proofs.Common.{◌≡◌, ℕ, ◌+◌, ◌-◌, ◌<◌, ◌≤◌, true, false, List, [], ◌∷◌, ◌++◌, map, filter, length, Some, None, Ok, Err, Option, Result, sym, refl, ap, ◌∙◌, subst, ⊎_elim, arith}
 use Rattle.std.proofs.lemmas.Bool.{cond-true, cond-false, cases_Bool}
+use Rattle.std.specs.Global.{Vec}
 use Rattle.std.specs.Str.{bytes_eq}
 use Rattle.byte_lists.specs.Bytes.{part}
 use Rattle.faults.specs.declared.file.FileFault.{FileFault}
@@ -24,7 +25,7 @@ use Rattle.lookup_runs.proofs.Held.{Holding, short, not_bad}
 use Rattle.lookup_runs.proofs.Walking.{data_of_item, State}
 use Rattle.lookup_runs.proofs.Giving.{next_step, first, first_found, start_state, start_done}
 use Rattle.gathering.specs.declared.gather.GatherFault.{GatherFault}
-use Rattle.gathering.specs.declared.gather.GatherFault.TheVariants.{File, Memory}
+use Rattle.gathering.specs.declared.gather.GatherFault.TheVariants.{File, OutOfMemory}
 use Rattle.gathering.specs.Gathers.{data_with, FetchedWhole, FetchRefused, Sofar, started, another, Gathered, ended, start_refused, next_refused, fetch_refused, bytes_of, GatherRefused, Gathers, GathersRecords, FetchStopped}
 
 abbrev Answers : Type 0
@@ -168,10 +169,10 @@ module _ (m : Meaning) (e : Extent) (key : List ℕ) (rs : List Record) (rd : Re
   refuses f (next_refused {c = c} {c' = c'} {ds = ds} s n) = next_done c c' ds f (left c ds s) n
   refuses f (fetch_refused {c = c} {c' = c'} {x = x} {ds = ds} s n r) = fetches_done c c' x ds f (left c ds s) n r
 
-pub gathers_records : {Z W : Type 0} (m : Meaning) (e : Extent) (key : List ℕ) (r : Result (Vec (Vec ℕ Z) W) GatherFault) → Gathers m e key r → GathersRecords m e key r
+pub gathers_records : (m : Meaning) (e : Extent) (key : List ℕ) (r : Result (Vec (Vec ℕ)) GatherFault) → Gathers m e key r → GathersRecords m e key r
 gathers_records m e key (Ok all) g = λ rs rd law. gives m e key rs rd law (bytes_of all.items) g
 gathers_records m e key (Err (File f)) g = λ rs rd law. refuses m e key rs rd law f g
-gathers_records m e key (Err Memory) g = tt
+gathers_records m e key (Err OutOfMemory) g = tt
 
 -- a next that finds data has probed one slot more at least, and not more than there are
 pub next_smaller : (m : Meaning) (c c' : Cursor) (key : List ℕ) (x : Found) → Next m c key (Ok (Some x)) c' → c'.slots - c'.probed < c.slots - c.probed
@@ -181,10 +182,10 @@ next_smaller m c c' key x (nexts.walked a b (nexts.found l p q)) = omega (arith,
 pub fetch_stops : (m : Meaning) (e : Extent) (key : List ℕ) (c c' : Cursor) (x : Found) (ds : List (List ℕ)) (f : GatherFault)
     → Sofar m e key c ds → Next m c key (Ok (Some x)) c' → FetchStopped m e x f → GatherRefused m e key f
 fetch_stops m e key c c' x ds (File f) s n r = fetch_refused s n r
-fetch_stops m e key c c' x ds Memory s n r = tt
+fetch_stops m e key c c' x ds OutOfMemory s n r = tt
 
 -- the bytes of one more
-pub bytes_more : {Z : Type 0} (vs : List (Vec ℕ Z)) (v : Vec ℕ Z) → bytes_of (vs ++ v ∷ []) ≡ bytes_of vs ++ v.items ∷ []
+pub bytes_more : (vs : List (Vec ℕ)) (v : Vec ℕ) → bytes_of (vs ++ v ∷ []) ≡ bytes_of vs ++ v.items ∷ []
 bytes_more [] v = refl
 bytes_more (w ∷ vs) v = ap (λ (xs : List (List ℕ)). w.items ∷ xs) (bytes_more vs v)
 

@@ -1,5 +1,6 @@
 -- All the data of a key: a start, and nexts up to the end, with a fetch of all data found.
-use Rattle.std.specs.Prelude.{◌≡◌, ℕ, List, [], ◌∷◌, ◌++◌, map, filter, length, Vec, Some, None, Ok, Err, Result}
+use Rattle.std.specs.Prelude.{◌≡◌, ℕ, List, [], ◌∷◌, ◌++◌, map, filter, length, Some, None, Ok, Err, Result}
+use Rattle.std.specs.Global.{Vec}
 use Rattle.std.specs.Str.{bytes_eq}
 use Rattle.faults.specs.declared.file.FileFault.{FileFault}
 use Rattle.device.specs.Meanings.{Meaning}
@@ -13,7 +14,7 @@ use Rattle.lookup.specs.Nexts.{Next}
 use Rattle.lookup.specs.Starts.{Start}
 use Rattle.lookup.specs.Fetches.{Fetch}
 use Rattle.gathering.specs.declared.gather.GatherFault.{GatherFault}
-use Rattle.gathering.specs.declared.gather.GatherFault.TheVariants.{File, Memory}
+use Rattle.gathering.specs.declared.gather.GatherFault.TheVariants.{File, OutOfMemory}
 
 -- the data of the records with a key, in their order
 abbrev pub data_with : List ℕ → List Record → List (List ℕ)
@@ -42,31 +43,31 @@ pub data Gathered (m : Meaning) (e : Extent) (key : List ℕ) : Result (List (Li
       → Sofar m e key c ds → Next m c key (Ok (Some x)) c' → FetchRefused m e x f → Gathered m e key (Err f)
 
 -- the bytes of these data
-abbrev pub bytes_of : {Z : Type 0} → List (Vec ℕ Z) → List (List ℕ)
+abbrev pub bytes_of : List (Vec ℕ) → List (List ℕ)
 bytes_of vs = map (λ v. v.items) vs
 
 -- what a lookup that gave no data was refused with, unless memory ran out
 abbrev pub GatherRefused : Meaning → Extent → List ℕ → GatherFault → Type 0
 GatherRefused m e key (File f) = Gathered m e key (Err f)
-GatherRefused m e key Memory = Unit {0}
+GatherRefused m e key OutOfMemory = Unit {0}
 
 -- so where there is memory enough for them
-abbrev pub Gathers : {Z W : Type 0} → Meaning → Extent → List ℕ → Result (Vec (Vec ℕ Z) W) GatherFault → Type 0
+abbrev pub Gathers : Meaning → Extent → List ℕ → Result (Vec (Vec ℕ)) GatherFault → Type 0
 Gathers m e key (Ok all) = Gathered m e key (Ok (bytes_of all.items))
 Gathers m e key (Err g) = GatherRefused m e key g
 
 -- in a lawful file that can be read, with these records, the lookup is not refused, and gives the data of exactly the records with the key, in file order
-abbrev pub GathersRecords : {Z W : Type 0} → Meaning → Extent → List ℕ → Result (Vec (Vec ℕ Z) W) GatherFault → Type 0
+abbrev pub GathersRecords : Meaning → Extent → List ℕ → Result (Vec (Vec ℕ)) GatherFault → Type 0
 GathersRecords m e key (Ok all) = (rs : List Record) → Readable m e → Lawful (file m e) rs → bytes_of all.items ≡ data_with key rs
 GathersRecords m e key (Err (File f)) = (rs : List Record) → Readable m e → Lawful (file m e) rs → ⊥
-GathersRecords m e key (Err Memory) = Unit {0}
+GathersRecords m e key (Err OutOfMemory) = Unit {0}
 
 -- why the whole of some data found was not fetched, unless memory ran out
 abbrev pub FetchStopped : Meaning → Extent → Found → GatherFault → Type 0
 FetchStopped m e x (File f) = FetchRefused m e x f
-FetchStopped m e x Memory = Unit {0}
+FetchStopped m e x OutOfMemory = Unit {0}
 
 -- the whole of some data found, or why there is none
-abbrev pub FetchesAll : {Z : Type 0} → Meaning → Extent → Found → Result (Vec ℕ Z) GatherFault → Type 0
+abbrev pub FetchesAll : Meaning → Extent → Found → Result (Vec ℕ) GatherFault → Type 0
 FetchesAll m e x (Ok data') = FetchedWhole m e x data'.items
 FetchesAll m e x (Err g) = FetchStopped m e x g

@@ -2,7 +2,7 @@
 
 ghost use Rattle.std.specs.Prelude.{◌≡◌, Ok};
 ghost use Rattle.lookup.specs.Starts.{Start};
-ghost use Rattle.gathering.specs.declared.gather.GatherFault.TheVariants.{File, Memory};
+ghost use Rattle.gathering.specs.declared.gather.GatherFault.TheVariants.{File, OutOfMemory};
 ghost use Rattle.gathering.specs.Gathers.{FetchesAll, Gathers, GathersRecords};
 
 use device::device::Device;
@@ -18,7 +18,7 @@ pub enum GatherFault {
     /// A call of the lookup was refused.
     File(FileFault),
     /// There is not memory enough for the data.
-    Memory,
+    OutOfMemory,
 }
 
 impl From<FileFault> for GatherFault {
@@ -30,18 +30,18 @@ impl From<FileFault> for GatherFault {
 }
 
 impl From<AllocError> for GatherFault {
-    ghost from_gives = { λ _ g. g ≡ Memory };
+    ghost from_gives = { λ _ g. g ≡ OutOfMemory };
 
     fn from(_error: AllocError) -> GatherFault {
-        GatherFault::Memory
+        GatherFault::OutOfMemory
     }
 }
 
 impl<T: Drop> From<AllocFailed<T>> for GatherFault {
-    ghost from_gives = { λ _ g. g ≡ Memory };
+    ghost from_gives = { λ _ g. g ≡ OutOfMemory };
 
     fn from(_error: AllocFailed<T>) -> GatherFault {
-        GatherFault::Memory
+        GatherFault::OutOfMemory
     }
 }
 

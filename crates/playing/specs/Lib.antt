@@ -1,0 +1,4 @@
+pub mod Steps
+pub mod Made
+pub mod Runs
+pub mod Laws

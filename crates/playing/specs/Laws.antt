@@ -1,0 +1,60 @@
+-- The laws of runs.
+use Rattle.std.specs.Prelude.{◌≡◌, ℕ, List, take, Some, None, Ok, Err, Option, Result}
+use Rattle.std.specs.Global.{Vec}
+use Rattle.faults.specs.declared.file.FileFault.{FileFault}
+use Rattle.device.specs.Meanings.{Meaning}
+use Rattle.cdb.specs.Records.{Record}
+use Rattle.file.specs.declared.extents.Extent.{Extent}
+use Rattle.file.specs.Extents.{Readable}
+use Rattle.gathering.specs.Gathers.{data_with, bytes_of}
+use Rattle.building.specs.declared.entries.Entry.{Entry}
+use Rattle.history.specs.declared.calls.State.{State}
+use Rattle.history.specs.Events.{Event, Published}
+use Rattle.history.specs.Histories.{History}
+use Rattle.playing.specs.declared.steps.Step.{Step}
+use Rattle.playing.specs.declared.steps.Outcome.{Outcome}
+use Rattle.playing.specs.declared.making.OutOfMemory.{OutOfMemory}
+use Rattle.playing.specs.declared.running.Ran.{Ran as Ran'}
+use Rattle.playing.specs.Steps.{Shows, Looked}
+use Rattle.playing.specs.Runs.{Ran}
+
+-- these events are a history, which has left this state and this device
+abbrev pub IsHistory : List Event → State → Meaning → Type 0
+IsHistory h s m = (first : Meaning) × History first h s m
+
+-- what has been going on since a format that was done is a history
+abbrev pub GoingIsHistory : Option (List Event) → State → Meaning → Type 0
+GoingIsHistory None s m = Unit {0}
+GoingIsHistory (Some h) s m = IsHistory h s m
+
+-- steps were made one after the other, and answered this; what has been going on since the last format that was done is a history
+pub record RanTo {T : Type 0} (m o : Meaning) (es : List Entry) (ks : List (Step T)) (rs : List Outcome) (n p : Meaning) (s : State) (fs : List Entry) : Type 0 where
+  pub events : Option (List Event)
+  pub ran : Ran m o es ks rs events n p s fs
+  pub history : GoingIsHistory events s n
+
+-- so where memory ran out: the steps up to some step were made
+abbrev pub RanSome : {T : Type 0} → Meaning → Meaning → List Entry → List (Step T) → Meaning → List Entry → Type 0
+RanSome m o es ks p fs = (k : ℕ) × (rs : List Outcome) × (n : Meaning) × (s : State) × RanTo m o es (take k ks) rs n p s fs
+
+-- what a run answers: all steps were made, and the log has what each answered; or memory ran out
+abbrev pub Runs : {D T : Type 0} → (D → Meaning) → Meaning → Meaning → List Entry → List (Step T) → Result (Ran' D) OutOfMemory → Meaning → List Entry → Type 0
+Runs meaning m o es ks (Ok r) p fs = RanTo m o es ks r.log.items (meaning r.device) p r.state fs
+Runs meaning m o es ks (Err x) p fs = RanSome m o es ks p fs
+
+-- what a lookup answered is these data
+abbrev pub IsData : Result (Vec (Vec ℕ)) FileFault → List (List ℕ) → Type 0
+IsData (Ok all) ds = bytes_of all.items ≡ ds
+IsData (Err f) ds = ⊥
+
+-- the published records after a history; a lookup of any key gives their data
+pub record GetsData (h : List Event) (m : Meaning) (e : Extent) : Type 0 where
+  pub draft : List Record
+  pub records : List Record
+  pub published : Published h draft records
+  pub gets : (key : List ℕ) (r : Result (Vec (Vec ℕ)) FileFault) → Looked m e key r → IsData r (data_with key records)
+
+-- after every history, while the live file can be read, a lookup of all data of a key on the extent that the state tells gives the data of the published
+-- records with the key, in order, and is not refused
+abbrev pub GetsGivePublished : Type 0
+GetsGivePublished = (m n : Meaning) (h : List Event) (s : State) (e : Extent) → History m h s n → Shows s (Some e) → Readable n e → GetsData h n e
