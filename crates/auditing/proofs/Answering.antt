@@ -92,7 +92,7 @@ kept f v (broken_7 rs r1 r2 r3 r4 r5 r6 h k) = tt
 kept f v (broken_8 rs r1 r2 r3 r4 r5 r6 r7 h) = tt
 kept f v (keeps_all rs law h) = (rs, law, refl, refl, h)
 
-never : (f : List ℕ) (a b n : ℕ) (r : Report) → Judged f (accepted a b n) → Judged f (refused r) → ⊥
+pub never : (f : List ℕ) (a b n : ℕ) (r : Report) → Judged f (accepted a b n) → Judged f (refused r) → ⊥
 unfolding is_accepted
 never f a b n r h k = false≢true (sym (ap is_accepted (one_verdict f (accepted a b n) (refused r) h k)))
 
@@ -146,7 +146,7 @@ module _ (m : Meaning) (e : Extent) where
       (λ i. ⊎_elim (λ (v : Unreadable m e g). absurd (not_both g i.0 v)) (λ j. ap (λ (x : FileFault). Err x) (same_fault g f j.1 i.1)) k)
       h
 
-  probes_exist : (xs : List Item) → AllByRecursion (Rule4 (file m e)) xs → (n : ℕ) × Probes (file m e) xs n
+  pub probes_exist : (xs : List Item) → AllByRecursion (Rule4 (file m e)) xs → (n : ℕ) × Probes (file m e) xs n
   probes_exist [] h = (0, refl)
   probes_exist (x ∷ xs) h = let r = probes_exist xs h.1 in (h.0.0 + 1 + r.0, (h.0.0, r.0, h.0.1, r.1, refl))
 

@@ -3,3 +3,4 @@ pub mod Inside
 pub mod Standing
 pub mod Held
 pub mod Clearing
+pub mod Ruled

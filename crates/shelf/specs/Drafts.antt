@@ -1,5 +1,5 @@
 -- A draft from its begin on, and what a finish makes of it.
-use Rattle.std.specs.Prelude.{◌≡◌, ℕ, true, List, [], ◌∷◌, ◌++◌, Ok, Err}
+use Rattle.std.specs.Prelude.{◌≡◌, ℕ, true, ◌⊎◌, List, [], ◌∷◌, ◌++◌, Ok, Err, Option}
 use Rattle.byte_lists.specs.Bytes.{part}
 use Rattle.device.specs.Meanings.{Meaning, Whole}
 use Rattle.cdb.specs.Records.{Record}
@@ -12,6 +12,8 @@ use Rattle.shelf.specs.declared.states.Finished.{Finished}
 use Rattle.shelf.specs.States.{live_at_finished, file_start, Begun}
 use Rattle.shelf.specs.Adds.{Adds}
 use Rattle.shelf.specs.Finishes.{Finishes}
+use Rattle.shelf.specs.Publishes.{Publishes}
+use Rattle.shelf.specs.Reports.{shelf_report}
 
 -- between two calls no byte of the device changes, and power does not come back; sectors may go bad or good again, and the writes left may change
 pub record Between (m n : Meaning) : Type 0 where
@@ -37,3 +39,9 @@ finished_file m f = part m.bytes (file_start (live_at_finished f)) f.made
 abbrev pub FinishAfterAddsIsLawful : Type 0
 FinishAfterAddsIsLawful =
     (m n : Meaning) (d : Draft) (es : List Entry) (rs : List Record) (f : Finished) → Drafted m d es rs → Finishes m d es (Ok f) n → Lawful (finished_file n f) rs
+
+-- so no rule refuses to publish it: only want of power does, or a bad sector
+abbrev pub PublishAfterAddsBreaksNoRule : Type 0
+PublishAfterAddsBreaksNoRule =
+    (m n k p : Meaning) (d : Draft) (es : List Entry) (rs : List Record) (f : Finished) (x : Refused (Option Finished))
+    → Drafted m d es rs → Finishes m d es (Ok f) n → Between n k → Publishes k f (Err x) p → ((shelf_report x.fault).number ≡ 21) ⊎ ((shelf_report x.fault).number ≡ 22)

@@ -2,6 +2,7 @@
 
 ghost use Rattle.std.specs.Prelude.{◌≡◌};
 ghost use Rattle.shelf.specs.Publishes.{Publishes};
+ghost use Rattle.shelf.specs.Drafts.{PublishAfterAddsBreaksNoRule};
 ghost use Rattle.shelf.specs.Steps.{AuditsDraft, WritesNextRoot, Switches};
 
 use crate::fault::ShelfFault;
@@ -43,11 +44,18 @@ fn switch<D: WritableDevice>(d: &mut D, draft: &Finished) -> Result<(), ShelfFau
     Ok(())
 }
 
+/// Makes known to a proof what can refuse a draft that was finished after adds. It does nothing.
+fn know_rules()
+    ensures { PublishAfterAddsBreaksNoRule }
+{}
+
 impl Finished {
     /// Audits the draft's file, then makes it the live one by one write of the root.
     pub fn publish<D: WritableDevice>(self, d: &mut D) -> Result<Shelf, PublishRefused>
         ensures publishes { Publishes (D.Device.meaning d.old) self result (D.Device.meaning d.new) }
+        ensures rules { PublishAfterAddsBreaksNoRule }
     {
+        know_rules();
         if let Err(fault) = switch(d, &self) {
             let draft = if fault.ends_draft() { None } else { Some(self) };
             return Err(Refused { fault, draft });
