@@ -17,8 +17,8 @@ abbrev pub going : {T : Type 0} → Option (List Event) → Step T → Outcome �
 going h step.Format (Answered Done) = Some []
 going h step.Format r = None
 going None k r = None
-going (Some h) (step.Call c) (Answered a) = Some (h ++ event (request c) a ∷ [])
-going (Some h) (step.Elsewhere c) (Answered a) = Some (h ++ event (request c) a ∷ [])
+going (Some h) (step.Call x) (Answered a) = Some (h ++ event (request x) a ∷ [])
+going (Some h) (step.Elsewhere x) (Answered a) = Some (h ++ event (request x) a ∷ [])
 going (Some h) k r = Some h
 
 -- steps made one after the other, from a device m, another device o and entries es on, where no shelf is known: what each answered, the events of the history

@@ -41,19 +41,19 @@ abbrev pub Looked : Meaning → Extent → List ℕ → Result (Vec (Vec ℕ)) F
 Looked m e key (Ok all) = Gathered m e key (Ok (bytes_of all.items))
 Looked m e key (Err f) = Gathered m e key (Err f)
 
--- no call is made elsewhere: an open, or a device of the same size
+-- a call is made on the other device if it is no open and that device has another size
 abbrev pub Elsewhere : Meaning → Meaning → calls.Call → Type 0
-Elsewhere m o c = (request c ≢ to_open) × (o.sectors ≢ m.sectors)
+Elsewhere m o x = (request x ≢ to_open) × (o.sectors ≢ m.sectors)
 
 -- one step: the device m, the other device o, the state s and the entries es before, what was answered, and all four after
 pub data Happens {T : Type 0} (m o : Meaning) (s : State) (es : List Entry) : Step T → Outcome → (n p : Meaning) → State → List Entry → Type 0 where
   formatted : {n : Meaning} {t : Shelf} → Whole n → Formats m (Ok t) n → Happens m o s es step.Format (Answered Done) n o (Idle t) es
   format_refused : {n : Meaning} {x : ShelfFault} → Formats m (Err x) n → Happens m o s es step.Format (Answered (Refused x)) n o Ended es
-  called : {n : Meaning} {c : calls.Call} {a : Answer} {t : State} {fs : List Entry}
-      → Moves m s es (request c) a t n fs → Happens m o s es (step.Call c) (Answered a) n o t fs
-  called_elsewhere : {p : Meaning} {c : calls.Call} {a : Answer} {t : State} {fs : List Entry}
-      → Elsewhere m o c → Moves o s es (request c) a t p fs → Happens m o s es (step.Elsewhere c) (Answered a) m p t fs
-  not_elsewhere : {c : calls.Call} → (Elsewhere m o c → ⊥) → Happens m o s es (step.Elsewhere c) Skipped m o s es
+  called : {n : Meaning} {x : calls.Call} {a : Answer} {t : State} {fs : List Entry}
+      → Moves m s es (request x) a t n fs → Happens m o s es (step.Call x) (Answered a) n o t fs
+  called_elsewhere : {p : Meaning} {x : calls.Call} {a : Answer} {t : State} {fs : List Entry}
+      → Elsewhere m o x → Moves o s es (request x) a t p fs → Happens m o s es (step.Elsewhere x) (Answered a) m p t fs
+  not_elsewhere : {x : calls.Call} → (Elsewhere m o x → ⊥) → Happens m o s es (step.Elsewhere x) Skipped m o s es
   looked : {key : Bor (List ℕ)} {r : Result (Vec (Vec ℕ)) FileFault} (e : Extent) → Shows s (Some e) → Looked m e key.now r → Happens m o s es (step.Get key) (Got r) m o s es
   nothing_live : {key : Bor (List ℕ)} → Shows s None → Happens m o s es (step.Get key) Skipped m o s es
   turned : {n : Meaning} {t : T} {a : Result (Unit {0}) Report} → Between m n → Happens m o s es (step.Turn t) (Turned a) n o s es

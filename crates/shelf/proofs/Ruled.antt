@@ -1,28 +1,25 @@
 -- A draft that was finished after adds is lawful, so no rule refuses to publish it.
-use Rattle.std.proofs.Common.{◌≡◌, ℕ, ◌+◌, ◌*◌, ◌/◌, ◌≤◌, Bool, true, false, cond, ◌⊎◌, List, length, Some, None, Ok, Err, Option, sym, refl, ap, ◌∙◌, subst, inl, inr, ⊎_elim, arith, rules}
+use Rattle.std.proofs.Common.{◌≡◌, ℕ, ◌+◌, ◌*◌, ◌/◌, ◌≤◌, Bool, true, false, cond, ◌⊎◌, List, length, Some, None, Err, Option, sym, refl, ap, ◌∙◌, subst, inl, inr, arith, rules}
 use Rattle.byte_lists.specs.Bytes.{part}
 use Rattle.faults.specs.declared.device.DeviceFault.{DeviceFault}
 use Rattle.faults.specs.declared.device.DeviceFault.TheVariants.{Range, Power, Bad}
 use Rattle.faults.specs.declared.file.FileFault.{FileFault}
-use Rattle.faults.specs.Reports.{located, device_report, file_report}
+use Rattle.faults.specs.Reports.{device_report, file_report}
 use Rattle.device.specs.Meanings.{Meaning, Writes, is_bad, refuses, refusal, spent, Spends, WritesBy}
 use Rattle.cdb.specs.Records.{Record, items}
 use Rattle.cdb.specs.Rules.{Lawful}
-use Rattle.cdb.specs.Verdicts.{slots_below, Judged, keeps_all}
+use Rattle.cdb.specs.Verdicts.{slots_below, keeps_all}
 use Rattle.file.specs.declared.extents.Extent.{Extent}
-use Rattle.file.specs.Extents.{file, On, Unreadable, outside, no_power, bad_sector}
+use Rattle.file.specs.Extents.{file, On, outside, no_power, bad_sector}
 use Rattle.auditing.specs.Audits.{Audited}
 use Rattle.auditing.proofs.Answering.{never, probes_exist}
-use Rattle.building.specs.declared.entries.Entry.{Entry}
 use Rattle.areas.specs.Geometry.{other}
 use Rattle.areas.proofs.Rooted.{root_long}
 use Rattle.shelf.specs.declared.fault.ShelfFault.{ShelfFault}
 use Rattle.shelf.specs.declared.fault.ShelfFault.TheVariants.{File, Size, NoRoot, Entries, Full, Small}
-use Rattle.shelf.specs.declared.states.Draft.{Draft}
 use Rattle.shelf.specs.declared.states.Finished.{Finished}
-use Rattle.shelf.specs.Reports.{shelf_report, at_root}
-use Rattle.shelf.specs.States.{Live, live_at_draft, live_at_finished, file_start}
-use Rattle.shelf.specs.Finishes.{Finishes}
+use Rattle.shelf.specs.Reports.{shelf_report}
+use Rattle.shelf.specs.States.{Live, live_at_finished, file_start}
 use Rattle.shelf.specs.Publishes.{next_root, DraftAudited, PublishStopped}
 use Rattle.shelf.specs.Drafts.{finished_file, PublishAfterAddsBreaksNoRule}
 use Rattle.shelf.proofs.Inside.{area_on}
