@@ -10,7 +10,7 @@ use shelf::opening::open;
 use stacks::over_memory::{CacheOverMarks, MarksOverCache, OverMemory};
 use std::test::Fail;
 
-/// Data that lie in three sectors.
+/// Data that do not lie in one sector.
 const LONG: [u8; 600] = [b'l'; 600];
 
 /// Records of which two have one key.
