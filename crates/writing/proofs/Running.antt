@@ -1,13 +1,16 @@
 -- Runs of writes, one after another.
-use Rattle.std.proofs.Common.{◌≡◌, ℕ, ◌+◌, ◌-◌, ◌*◌, ◌/◌, ◌%◌, ◌<◌, ◌≤◌, Bool, true, false, cond, ltb, List, [], ◌++◌, length, take, drop, Some, None, Ok, Err, Option, Result, sym, refl, ap, ◌∙◌, subst, inl, inr, ⊎_elim, arith, take-add, rules}
+use Rattle.std.proofs.Common.{◌≡◌, ℕ, ◌+◌, ◌-◌, ◌*◌, ◌/◌, ◌%◌, ◌<◌, ◌≤◌, Bool, true, false, cond, ltb, List, [], ◌++◌, length, take, drop, Some, None, Ok, Err, Option, Result, sym, refl, ap, ◌∙◌, subst, inl, inr, ⊎_elim, arith, take-add, rules, IsErrAnd}
 use mathlib.Core.Bool.{false≢true}
 use Rattle.std.proofs.lemmas.List.{places, same_lists, length-append, length-take-le, length-drop, append_assoc, take_at, drop_at, drop-drop}
 use Rattle.std.proofs.lemmas.Bool.{cases_lt, cases_eq, ltb-true, ltb-false}
+use Rattle.std.proofs.lemmas.Result.{err_from_is_err_and}
 use Rattle.byte_lists.specs.Bytes.{laid}
 use Rattle.faults.specs.declared.device.DeviceFault.{DeviceFault}
 use Rattle.faults.specs.declared.device.DeviceFault.TheVariants.{Range, Power, Bad}
 use Rattle.device.specs.declared.pieces.Piece.{Piece}
+use Rattle.device.specs.declared.pieces.Pieces.{Pieces}
 use Rattle.device.specs.Meanings.{Meaning, Condition, Whole, Writes, endless, some, is_bad, spoils, refusal, refuses, spent, Cut, stored, Spends, WritesBy, Written}
+use Rattle.device.specs.Pieces.{IsNext}
 use Rattle.writing.specs.Runs.{Touches, Outside, Used, Counted, Completed, Stopped, Interrupted, Runs}
 use Rattle.writing.proofs.Keeping.{used_none, used_both, used_less, counted_before, keeps_all, keeps_both, keeps_less, outside_part, completed_keeps}
 
@@ -228,24 +231,43 @@ runs_both m n o p us vs (Err f) h w v =
     let P : ℕ → Type 0 = λ q. Interrupted m p q f o in
     subst P (sym (length-append us vs)) (interrupted_later m n o p us (length vs) f h w v)
 
--- one piece more
-pub run_more : (m n o : Meaning) (p : ℕ) (w : Piece) (ys zs : List ℕ) (r : Answer) → Whole m → p + length ys ≤ 512 * m.sectors → Completed m p (take w.from ys) n
-    → w.place ≡ p + w.from → w.to ≤ length ys → zs ≡ take (w.to - w.from) (drop w.from ys) → Written n w.place zs r o → Runs m p (take w.to ys) r o
-run_more m n o p w ys zs r h l done at u e t =
-    let us : List ℕ = take w.from ys in
-    let a : length us ≡ w.from = length-take-le w.from ys (omega arith) in
-    let b : length zs ≡ w.to - w.from = ap length e ∙ length-take-le (w.to - w.from) (drop w.from ys) (omega (arith, length-drop w.from ys)) in
-    let long : length m.bytes ≡ 512 * m.sectors = h.long in
-    let s : n.sectors ≡ m.sectors = done.sectors in
-    let c : Runs n w.place zs r o = piece_runs n w.place zs r o (omega arith) (omega arith) (omega arith) t in
-    let P : ℕ → Type 0 = λ q. Runs n q zs r o in
-    let d : Runs m p (us ++ zs) r o = runs_both m n o p us zs r (omega arith) done (subst P (at ∙ ap (λ (q : ℕ). p + q) (sym a)) c) in
-    let Q : List ℕ → Type 0 = λ q. Runs m p q r o in
-    let z : w.from + (w.to - w.from) ≡ w.to = omega arith in
-    subst Q (ap (λ (q : List ℕ). us ++ q) e ∙ sym (take-add w.from (w.to - w.from) ys) ∙ ap (λ (q : ℕ). take q ys) z) d
+-- bytes that are written piece by piece, as far as the pieces have come
+pub record Upto (m : Meaning) (p : ℕ) (ys : List ℕ) (s : Pieces) (n : Meaning) : Type 0 where
+  pub start : s.start ≡ p
+  pub len : s.len ≡ length ys
+  pub done : Completed m p (take s.done ys) n
 
-pub run_interrupted : (m n o : Meaning) (p : ℕ) (w : Piece) (ys zs : List ℕ) (f : DeviceFault) → Whole m → p + length ys ≤ 512 * m.sectors → Completed m p (take w.from ys) n
-    → w.place ≡ p + w.from → w.to ≤ length ys → zs ≡ take (w.to - w.from) (drop w.from ys) → Written n w.place zs (Err f) o → Interrupted m p (length ys) f o
-run_interrupted m n o p w ys zs f h l done at u e t =
-    let a : length (take w.to ys) ≡ w.to = length-take-le w.to ys u in
-    interrupted_early m p (length (take w.to ys)) (length ys) f o (omega arith) (run_more m n o p w ys zs (Err f) h l done at u e t)
+-- the loop over the pieces: its start, a piece more, and the piece at which it stops
+module _ (m : Meaning) (p : ℕ) (ys : List ℕ) (h : Whole m) (l : p + length ys ≤ 512 * m.sectors) where
+  pub begun : {s : Pieces} → s.start ≡ p → s.done ≡ 0 → s.len ≡ length ys → Upto m p ys s m
+  begun a b e = record { start = a; len = e; done = rw b (completed_none m p (omega (arith, h.long))) }
+
+  piece_more : {n : Meaning} {w : Piece} {s t : Pieces} {zs : List ℕ} (r : Answer) (o : Meaning) → Upto m p ys s n → IsNext s w t → zs ≡ take (w.to - w.from) (drop w.from ys) → Written n w.place zs r o
+      → (t.done ≤ length ys) × Runs m p (take t.done ys) r o
+  piece_more {n} {w} {s} {t} {zs} r o u next e x =
+      let us : List ℕ = take w.from ys in
+      let done : Completed m p us n = rw next.from u.done in
+      let to : w.to ≤ length ys = omega arith in
+      let a : length us ≡ w.from = length-take-le w.from ys (omega arith) in
+      let b : length zs ≡ w.to - w.from = ap length e ∙ length-take-le (w.to - w.from) (drop w.from ys) (omega (arith, length-drop w.from ys)) in
+      let long : length m.bytes ≡ 512 * m.sectors = h.long in
+      let same : n.sectors ≡ m.sectors = done.sectors in
+      let c : Runs n w.place zs r o = piece_runs n w.place zs r o (omega arith) (omega arith) (omega arith) x in
+      let P : ℕ → Type 0 = λ q. Runs n q zs r o in
+      let at : w.place ≡ p + length us = omega arith in
+      let d : Runs m p (us ++ zs) r o = runs_both m n o p us zs r (omega arith) done (subst P at c) in
+      let Q : List ℕ → Type 0 = λ q. Runs m p q r o in
+      let z : w.from + (w.to - w.from) ≡ t.done = omega arith in
+      (omega arith, subst Q (ap (λ (q : List ℕ). us ++ q) e ∙ sym (take-add w.from (w.to - w.from) ys) ∙ ap (λ (q : ℕ). take q ys) z) d)
+
+  pub turned : {n : Meaning} {w : Piece} {s t : Pieces} {zs : List ℕ} (o : Meaning) → Upto m p ys s n → IsNext s w t → zs ≡ take (w.to - w.from) (drop w.from ys) → Written n w.place zs (Ok tt) o
+      → Upto m p ys t o
+  turned o u next e x = record { start = next.start ∙ u.start; len = next.len ∙ u.len; done = (piece_more (Ok tt) o u next e x).1 }
+
+  pub stopped : {n : Meaning} {w : Piece} {s t : Pieces} {zs : List ℕ} (f : DeviceFault) (r : Answer) (o : Meaning) → Upto m p ys s n → IsNext s w t → zs ≡ take (w.to - w.from) (drop w.from ys)
+      → Written n w.place zs (Err f) o → IsErrAnd r (λ g. g ≡ f) → Runs m p ys r o
+  stopped {t} f r o u next e x i =
+      let y = err_from_is_err_and r i in
+      let k = piece_more (Err f) o u next e x in
+      let a : length (take t.done ys) ≡ t.done = length-take-le t.done ys k.0 in
+      rw (y.1, y.2) (interrupted_early m p (length (take t.done ys)) (length ys) f o (omega (arith, k.0)) k.1)
