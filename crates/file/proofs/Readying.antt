@@ -1,6 +1,5 @@
 -- A readable file, sector by sector and byte by byte.
 use Rattle.std.proofs.Common.{◌≡◌, ℕ, ◌+◌, ◌-◌, ◌*◌, ◌/◌, ◌<◌, ◌≤◌, List, ◌++◌, length, take, drop, Some, None, Ok, Err, Option, Result, sym, ap, ◌∙◌, subst, ⊎_elim, arith}
-use borrow.Rule.Slice.PartMut.{post_of}
 use Rattle.std.proofs.lemmas.List.{length-take-le, length-drop, length-append}
 use Rattle.std.proofs.lemmas.Bool.{cases_eq}
 use Rattle.byte_lists.specs.Bytes.{part}
@@ -41,8 +40,5 @@ part_read m e p old new (Err f) w h l g =
     absurd (some_none (refuses m ((e.start + p + b.k) / 512)) f (subst (Reads m) z (h.bytes (p + b.k) (omega (arith, b.within)))) b.refused)
 
 -- a buffer keeps its length when a front of it is filled
-pub buffer_long : (n k : ℕ) (new xs : List ℕ) → length xs ≡ n → k ≤ n → length new ≡ length (take (k - 0) xs) → length (new ++ post_of 0 (k - 0) xs) ≡ n
-buffer_long n k new xs l h e =
-    let z = length-take-le (k - 0) xs (omega arith) in
-    let v = length-drop (k - 0) xs in
-    length-append new (drop (k - 0) xs) ∙ omega arith
+pub buffer_long : (n k : ℕ) (new xs : List ℕ) → length xs ≡ n → k ≤ n → length new ≡ length (take k xs) → length (new ++ drop k xs) ≡ n
+buffer_long n k new xs l h e = simp (length-append, length-drop) (omega (arith, length-take-le k xs (omega arith)))

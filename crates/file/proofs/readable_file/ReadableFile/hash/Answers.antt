@@ -1,11 +1,12 @@
 use Rattle.std.proofs.Common.{◌≡◌, ℕ, ◌+◌, ◌-◌, length, take, fold, arith}
-use Rattle.std.proofs.lemmas.List.{length-take-le, length-drop, length-append}
+use Rattle.std.proofs.lemmas.List.{length-take-le}
 use Rattle.byte_lists.specs.Bytes.{part}
 use Rattle.device.specs.declared.pieces.Piece.{Piece}
 use Rattle.device.specs.Pieces.{IsNext}
 use Rattle.file.specs.ReadableFiles.{contents}
 use Rattle.cdb.specs.Records.{hash_step}
 use Rattle.cdb.proofs.Hashes.{hash_is, hashed_part}
+use Rattle.file.proofs.Readying.{buffer_long}
 use Rattle.file.proofs.SameFiles.{same_file_then}
 use Rattle.file.proofs.readable_file.ReadableFile.hash.Goals as goal
 
@@ -21,7 +22,7 @@ loop-piece-preserved g c =
     let done : w.from + k ≡ c.next.new.self.done = omega arith in
     record {
       len = omega arith;
-      room = simp (length-append, length-drop) (omega (arith, z, c.hash_piece-hash.auto.bytes));
+      room = buffer_long 512 k _ c.loop-piece.bytes inv.room (omega arith) c.hash_piece-hash.auto.bytes;
       hash = rw (← done) (hashed_part f c.args.p w.from k c.loop-piece.hash _ (rw next.from inv.hash) e);
       same = same_file_then inv.same c.hash_piece-hash.ensures.same;
     }
