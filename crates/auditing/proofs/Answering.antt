@@ -15,14 +15,16 @@ use Rattle.device.specs.Meanings.{Meaning, Whole, refuses}
 use Rattle.cdb.specs.Records.{Record, Item, items}
 use Rattle.cdb.specs.Rules.{Rule4, Lawful}
 use Rattle.cdb.specs.Verdicts.{Verdict, accepted, refused, slots_below, Probes, Judged, broken_1, broken_2, broken_3, broken_4, broken_5, broken_6, broken_7, broken_8, keeps_all}
+use Rattle.cdb.specs.Files.{position}
 use Rattle.cdb.proofs.Exactly.{lawful_exactly}
+use Rattle.cdb.proofs.FileLookup.{one_reading}
 use Rattle.cdb.proofs.OneVerdict.{one_verdict}
 use Rattle.file.specs.declared.extents.Extent.{Extent}
 use Rattle.file.specs.Ranges.{FirstBad}
 use Rattle.file.specs.Extents.{file, Readable, Unreadable, outside, no_power, bad_sector}
 use Rattle.file.proofs.Readying.{some_none}
 use Rattle.auditing.specs.declared.audits.Counts.{Counts}
-use Rattle.auditing.specs.Audits.{verdict, Audited, AcceptedExactlyWhenMade}
+use Rattle.auditing.specs.Audits.{verdict, Audited, OnlyAnswer, AcceptedExactlyWhenMade, OneRecordList}
 
 -- the fault of a rule, from how it is told
 fault_of : Report → FileFault
@@ -133,7 +135,7 @@ module _ (m : Meaning) (e : Extent) where
       let q : file_report f ≡ file_report g = ap report_of (one_verdict (file m e) (refused (file_report f)) (refused (file_report g)) h k) in
       sym (fault_back f (rule_number (file m e) (refused (file_report f)) h)) ∙ ap fault_of q ∙ fault_back g (rule_number (file m e) (refused (file_report g)) k)
 
-  pub only_answer : (r s : Result Counts FileFault) → Audited m e r → Audited m e s → s ≡ r
+  only_answer : (r s : Result Counts FileFault) → Audited m e r → Audited m e s → s ≡ r
   unfolding counts_of
   only_answer (Ok c) (Ok d) h k = ap (λ (v : Verdict). Ok (counts_of v)) (one_verdict (file m e) (verdict (Ok d)) (verdict (Ok c)) k.1 h.1)
   only_answer (Ok c) (Err g) h k =
@@ -157,7 +159,7 @@ module _ (m : Meaning) (e : Extent) where
     short : length (file m e) < 2 ^ 32
     short = omega (arith, length_part m.bytes e.start e.len, e.bounded)
 
-    pub accepted_made : (r : Result Counts FileFault) → Audited m e r → AcceptedExactlyWhenMade m e r
+    accepted_made : (r : Result Counts FileFault) → Audited m e r → AcceptedExactlyWhenMade m e r
     accepted_made (Ok c) h readable =
         let k = kept (file m e) (verdict (Ok c)) h.1 in
         (k.0, (lawful_exactly (file m e) k.0 bytes short).0 k.1, (k.2, k.3, k.4))
@@ -169,3 +171,7 @@ module _ (m : Meaning) (e : Extent) where
         let p = probes_exist (items 2048 rs) law.placed in
         never (file m e) (length rs) (slots_below (file m e) 256) p.0 (file_report x) (keeps_all rs law p.1) j.1)
         h
+
+    -- what follows for an answer that fits
+    pub follows : (r : Result Counts FileFault) → Audited m e r → OnlyAnswer m e r × AcceptedExactlyWhenMade m e r × OneRecordList m e
+    follows r a = ((λ s h. only_answer r s a h), accepted_made r a, λ rs ss b d. one_reading (file m e) 2048 (position (file m e) 0) rs ss b.reads d.reads)

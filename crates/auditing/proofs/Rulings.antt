@@ -1,19 +1,22 @@
 -- From what the passes find to the verdict.
-use Rattle.std.proofs.Common.{◌≡◌, ℕ, zero, suc, ◌+◌, ◌-◌, ◌*◌, ◌/◌, ◌<◌, ◌≤◌, Bool, true, false, cond, ltb, List, [], ◌∷◌, length, get_or, Ok, Err, count_by, sym, refl, ap, ◌∙◌, subst, ⊎_elim, arith}
+use Rattle.std.proofs.Common.{◌≡◌, ℕ, zero, suc, ◌+◌, ◌-◌, ◌*◌, ◌/◌, ◌<◌, ◌≤◌, Bool, true, false, cond, ltb, List, [], ◌∷◌, length, get_or, Ok, Err, count_by, Result, sym, refl, ap, ◌∙◌, subst, ⊎_elim, arith, IsErrAnd}
 use Rattle.std.specs.List.{AllByRecursion}
 use Rattle.std.proofs.lemmas.List.Sums.{sum_by-cons, count_by-le-length}
 use Rattle.std.proofs.lemmas.Bool.{lt-ltb, le-ltb, cases_lt}
+use Rattle.std.proofs.lemmas.Result.{err_from_is_err_and}
 use Rattle.faults.specs.declared.file.FileFault.{FileFault}
 use Rattle.cdb.specs.Records.{Record, Records, items}
 use Rattle.cdb.specs.Tables.{Slot, blank}
 use Rattle.cdb.specs.Files.{position, slot_count, slots_at, ends}
 use Rattle.cdb.specs.Rules.{First, Each, Rule1, Rule2, Rule3, Rule4, Rule5, Rule6, Clear, Rule7, Lawful}
-use Rattle.cdb.specs.Verdicts.{slots_below, Judged, broken_4, broken_5, broken_6, broken_7, broken_8, keeps_all}
+use Rattle.cdb.specs.Verdicts.{slots_below, Judged, broken_2, broken_3, broken_4, broken_5, broken_6, broken_7, broken_8, keeps_all}
 use Rattle.cdb.proofs.Placement.{length_slots_at}
 use Rattle.cdb.proofs.FileLookup.{one_reading}
 use Rattle.cdb.proofs.Slots.{slot_at}
-use Rattle.scanning.specs.Headers.{Header}
-use Rattle.scanning.specs.Sweeps.{CountTo, Placed, Lost}
+use Rattle.scanning.specs.Headers.{Header, BreaksEntry}
+use Rattle.scanning.specs.Sweeps.{CountTo, EndsPast, Past, Placed, Lost}
+use Rattle.scanning.specs.declared.records.Placing.{Placing}
+use Rattle.auditing.specs.declared.audits.Counts.{Counts}
 use Rattle.auditing.specs.Tables.{filled_in, Counted, Room, ClearAt, TableClear, Unruled, miscounted, crowded, stained, Ruled}
 use Rattle.auditing.specs.Orders.{Ordered}
 use Rattle.auditing.specs.Audits.{verdict}
@@ -184,3 +187,32 @@ module _ (f : List ℕ) (long : Rule1 f) (end : ℕ) (header : Header f end) whe
           let law : Lawful f rs = record { long = long; entries = H; reads = reads; placed = found; counted = all5; room = all6; clear = all7; ordered = swept_passes f rs reads found all5 inside end low here placed.swept l } in
           subst (λ (c : ℕ). Judged f (verdict (Ok (record { records = c; slots = s; probes = q })))) (sym count)
           (subst (λ (c : ℕ). Judged f (verdict (Ok (record { records = length placed.met.0; slots = c; probes = q })))) (sym slots) (keeps_all placed.met.0 law placed.met.2))
+
+-- what a step refuses is handed on
+handed_on : (f : List ℕ) (r : Result Counts FileFault) (y : FileFault) → IsErrAnd r (λ z. z ≡ y) → Judged f (verdict (Err y)) → Judged f (verdict r)
+handed_on f r y i h = let e = err_from_is_err_and r i in rw (e.1, e.2) h
+
+pub entry_refuses : (f : List ℕ) → Rule1 f → (r : Result Counts FileFault) (y : FileFault) → IsErrAnd r (λ z. z ≡ y) → BreaksEntry f y → Judged f (verdict r)
+entry_refuses f long r y i h = handed_on f r y i (rw h.told (broken_2 long h.first))
+
+-- the steps in turn, each of which has found the same bytes
+module _ (f : List ℕ) {f1 f2 : List ℕ} (long : Rule1 f) (end : ℕ) (header : Header f end) (s1 : f1 ≡ f) (s2 : f2 ≡ f1) where
+  pub past_refuses : (r : Result Counts FileFault) (y : FileFault) → IsErrAnd r (λ z. z ≡ y) → EndsPast f1 end y → Judged f (verdict r)
+  past_refuses r y i h = 
+      let p : EndsPast f end y = rw s1 at h in
+      let past : Past f (position f 0) p.0 = rw header.first at p.2 in
+      handed_on f r y i (rw p.1 (broken_3 long header.entries past))
+
+  pub lost_refuses : (r : Result Counts FileFault) (y : FileFault) → IsErrAnd r (λ z. z ≡ y) → Lost f2 end y → Judged f (verdict r)
+  lost_refuses r y i h = handed_on f r y i (lost_judged f long end header y (rw (s2, s1) at h))
+
+  module _ {f3 : List ℕ} (x : Placing) (placed : Placed f2 end x.probes x.counts x.low) (s3 : f3 ≡ f2) where
+    pub unruled_refuses : (r : Result Counts FileFault) (y : FileFault) → IsErrAnd r (λ z. z ≡ y) → Unruled f3 x.counts y → Judged f (verdict r)
+    unruled_refuses r y i h = handed_on f r y i (tables_refuse f long end header x.counts x.probes x.low (rw (s2, s1) at placed) y (rw (s3, s2, s1) at h))
+
+    module _ (ruled : Ruled f3 x.counts (Ok tt)) where
+      pub unordered_refuses : {f4 : List ℕ} → f4 ≡ f3 → (r : Result Counts FileFault) (y : FileFault) → IsErrAnd r (λ z. z ≡ y) → Ordered f4 end x.low (Err y) → Judged f (verdict r)
+      unordered_refuses s4 r y i h = handed_on f r y i (order_refuse f long end header x.counts x.probes x.low (rw (s2, s1) at placed) (rw (s3, s2, s1) at ruled) y (rw (s4, s3, s2, s1) at h))
+
+      pub none_refuses : (n s : ℕ) → CountTo f1 end n → s ≡ (length f - end) / 8 → end ≤ x.low → Judged f (verdict (Ok (record { records = n; slots = s; probes = x.probes })))
+      none_refuses n s k e l = all_pass f long end header x.counts x.probes x.low (rw (s2, s1) at placed) (rw (s3, s2, s1) at ruled) n s (rw s1 at k) e l
