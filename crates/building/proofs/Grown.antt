@@ -91,10 +91,10 @@ module _ (m n o : Meaning) (from : ℕ) (es : List Entry) (i : ℕ) (l : i < len
   abbrev mine : ℕ
   mine = (entry_at es i).hash % 256
 
-  abbrev pub pos_of : ℕ
+  abbrev pos_of : ℕ
   pos_of = start_of from es mine
 
-  abbrev pub len_of : ℕ
+  abbrev len_of : ℕ
   len_of = 2 * count_of mine es
 
   mine_in : pos_of + 8 * len_of ≤ from + 16 * length es
@@ -123,7 +123,7 @@ module _ (m n o : Meaning) (from : ℕ) (es : List Entry) (i : ℕ) (l : i < len
   mine_out : (k : ℕ) → Outside from (16 * length es) k → Outside pos_of (8 * len_of) k
   mine_out k h = let c = mine_in in outside_part from (16 * length es) pos_of (8 * len_of) k (omega arith) (omega arith) h
 
-  pub filled_more : FilledWith m from es (take i es) n → PutInto n pos_of len_of (slot_of (entry_at es i)) o → FilledWith m from es (take (i + 1) es) o
+  filled_more : FilledWith m from es (take i es) n → PutInto n pos_of len_of (slot_of (entry_at es i)) o → FilledWith m from es (take (i + 1) es) o
   filled_more b p = record {
     keeps = keeps_both m n o _ _ _ b.keeps p.keeps (λ k h. h) mine_out;
     power = p.power ∙ b.power;
@@ -134,19 +134,19 @@ module _ (m n o : Meaning) (from : ℕ) (es : List Entry) (i : ℕ) (l : i < len
     tables = grown b p;
   }
 
-  pub filled_within : FilledWith m from es (take i es) n → from + 16 * length es ≤ 512 * m.sectors → pos_of + 8 * len_of ≤ 512 * n.sectors
+  filled_within : FilledWith m from es (take i es) n → from + 16 * length es ≤ 512 * m.sectors → pos_of + 8 * len_of ≤ 512 * n.sectors
   filled_within b h = let s : n.sectors ≡ m.sectors = b.keeps.sectors in let c = mine_in in omega arith
 
-  pub filled_reads : FilledWith m from es (take i es) n → AllRead n pos_of (8 * len_of)
+  filled_reads : FilledWith m from es (take i es) n → AllRead n pos_of (8 * len_of)
   filled_reads b =
       let c = mine_in in
       good_range n pos_of (8 * len_of) (λ z. b.power ∙ b.on (omega arith))
       (λ s t. bad_after m n s b.keeps.condition ∙ b.good s (omega arith, omega (arith, t.1), omega (arith, t.2)))
 
-  pub filled_room : FilledWith m from es (take i es) n → HasRoom n.bytes pos_of len_of (entry_at es i).hash
+  filled_room : FilledWith m from es (take i es) n → HasRoom n.bytes pos_of len_of (entry_at es i).hash
   filled_room b = room_in n.bytes pos_of len_of (entry_at es i).hash (puts_into mine (take i es)) (b.tables mine (omega arith)) (omega (arith, order_room es i l))
 
-  pub filled_lost : FilledWith m from es (take i es) n → Lost n pos_of (8 * len_of) o → Lost m from (16 * length es) o
+  filled_lost : FilledWith m from es (take i es) n → Lost n pos_of (8 * len_of) o → Lost m from (16 * length es) o
   filled_lost b g =
       let c = mine_in in
       record {
@@ -163,17 +163,33 @@ module _ (m n o : Meaning) (from : ℕ) (es : List Entry) (i : ℕ) (l : i < len
 pub filled_all : (m n : Meaning) (from : ℕ) (es : List Entry) (i : ℕ) → length es ≤ i → FilledWith m from es (take i es) n → FilledWith m from es es n
 filled_all m n from es i l b = let P : List Entry → Type 0 = λ q. FilledWith m from es q n in subst P (take_all i es l) b
 
--- a table by what the code has of it
-module _ (P : ℕ → ℕ → Type 0) (ts : List Table) (from : ℕ) (es : List Entry) (t u : ℕ) (l : t < 256) (e : u ≡ t) (h : TablesOf ts es) where
-  abbrev coded : ℕ → Type 0
-  coded q = P (from + (table_in ts q).offset) (table_in ts q).slots
+-- the next entry's table by what the code has of it: where it starts and its slots
+module _ (m n : Meaning) (from : ℕ) (es : List Entry) (i : ℕ) (l : i < length es) (ts : List Table) (u : ℕ) (e : u ≡ (entry_at es i).hash % 256) (h : TablesOf ts es) (b : FilledWith m from es (take i es) n) where
+  abbrev there : ℕ
+  there = from + (table_in ts u).offset
 
-  pub by_table : P (start_of from es t) (2 * count_of t es) → coded u
-  by_table x =
-      let F : ℕ → Type 0 = λ q. P (from + q) (table_in ts t).slots in
-      subst coded (sym e) (subst F (sym (h.offsets t l)) (subst (P (start_of from es t)) (sym (h.slots t l)) x))
+  abbrev count : ℕ
+  count = (table_in ts u).slots
 
-  pub to_table : coded u → P (start_of from es t) (2 * count_of t es)
-  to_table x =
-      let F : ℕ → Type 0 = λ q. P (from + q) (2 * count_of t es) in
-      subst F (h.offsets t l) (subst (P (from + (table_in ts t).offset)) (h.slots t l) (subst coded e x))
+  there_is : there ≡ start_of from es ((entry_at es i).hash % 256)
+  there_is = ap (λ (q : ℕ). from + (table_in ts q).offset) e ∙ ap (λ (q : ℕ). from + q) (h.offsets ((entry_at es i).hash % 256) (omega arith))
+
+  count_is : count ≡ 2 * count_of ((entry_at es i).hash % 256) es
+  count_is = ap (λ (q : ℕ). (table_in ts q).slots) e ∙ h.slots ((entry_at es i).hash % 256) (omega arith)
+
+  -- what a put asks of it
+  pub put_within : from + 16 * length es ≤ 512 * m.sectors → there + 8 * count ≤ 512 * n.sectors
+  put_within w = rw (there_is, count_is) (filled_within m n n from es i l b w)
+
+  pub put_reads : AllRead n there (8 * count)
+  put_reads = rw (there_is, count_is) (filled_reads m n n from es i l b)
+
+  pub put_room : HasRoom n.bytes there count (entry_at es i).hash
+  put_room = rw (there_is, count_is) (filled_room m n n from es i l b)
+
+  -- what it makes of all the tables, done or refused
+  pub put_more : (o : Meaning) → PutInto n there count (slot_of (entry_at es i)) o → FilledWith m from es (take (i + 1) es) o
+  put_more o p = filled_more m n o from es i l b (rw (there_is, count_is) at p)
+
+  pub put_lost : (o : Meaning) → Lost n there (8 * count) o → Lost m from (16 * length es) o
+  put_lost o p = filled_lost m n o from es i l b (rw (there_is, count_is) at p)
