@@ -1,6 +1,4 @@
-use Rattle.std.proofs.Common.{Result, subst}
-use Rattle.faults.specs.declared.file.FileFault.{FileFault}
-use Rattle.faults.proofs.Places.{add_place_ok}
+use Rattle.faults.proofs.Places.{placed_ok}
 use Rattle.device.specs.Meanings.{Meaning}
 use Rattle.areas.specs.declared.area.Area.TheVariants.{Zero}
 use Rattle.areas.specs.Steps.{WritesRoot}
@@ -13,10 +11,8 @@ returns g c =
     let m : Meaning = g.D.Device.meaning c.args.d.now in
     let k : Meaning = g.D.Device.meaning c.write_empty.new.d in
     let n : Meaning = g.D.Device.meaning c.write_root.new.d in
-    let P : Result (Unit {0}) FileFault → Type 0 = λ a. WritesEmpty m 512 a k in
-    let file = subst P (add_place_ok c.write_empty.result c.add_place.result _ 256 512 c.add_place.ensures c.in_ok-add_place.was) c.write_empty.ensures.writes in
-    let Q : Result (Unit {0}) FileFault → Type 0 = λ a. WritesRoot k Zero 2048 a n in
-    let root = subst Q (add_place_ok c.write_root.result c.add_place-2.result _ 256 0 c.add_place-2.ensures c.in_ok-add_place-2.was) c.write_root.ensures.writes in
     record {
-      writes = formatted m k n (g.met.D.Device.whole c.args.d.now) c.requires.room file root;
+      writes = formatted m k n (g.met.D.Device.whole c.args.d.now) c.requires.room
+          (placed_ok (λ r. WritesEmpty m 512 r k) 256 512 c.add_place.ensures c.in_ok-add_place.was c.write_empty.ensures.writes)
+          (placed_ok (λ r. WritesRoot k Zero 2048 r n) 256 0 c.add_place-2.ensures c.in_ok-add_place-2.was c.write_root.ensures.writes);
     }

@@ -1,15 +1,9 @@
-use Rattle.std.proofs.Common.{Result, sym, subst}
-use Rattle.faults.specs.declared.file.FileFault.{FileFault}
-use Rattle.faults.specs.declared.file.Located.{Located}
 use Rattle.device.specs.Meanings.{Meaning}
-use Rattle.auditing.specs.declared.audits.Counts.{Counts}
-use Rattle.shelf.specs.Steps.{AuditsDraft}
 use Rattle.shelf.proofs.Clearing.{audits_draft}
 use Rattle.shelf.proofs.publishing.audit_draft.Goals as goal
 
 pub returns-clause-audits : goal.returns-clause-audits
 returns-clause-audits g c =
     let m : Meaning = g.D.Device.meaning c.args.d.now in
-    let P : Result Counts (Located FileFault) → Type 0 = λ a. AuditsDraft m c.args.draft.now a in
-    subst P (sym c.add_place.ensures)
+    rw c.add_place.ensures
     (audits_draft m c.args.draft.now c.file-extent.result c.audit.result c.requires.size c.file-extent.ensures.start c.file-extent.ensures.len c.audit.ensures.verdict)
