@@ -49,12 +49,10 @@ pub lowest_more : (f : List ℕ) (pos len hash p j best low r : ℕ) (w : Words)
 lowest_more f pos len hash p j best low r w s pair e h k =
     let a : w.first ≡ word_at f (slot_place pos len hash j) = pair.0 ∙ ap (word_at f) e in
     let b : w.second ≡ word_at f (slot_place pos len hash j + 4) = pair.1 ∙ ap (λ (i : ℕ). word_at f (i + 4)) e in
-    let L : ℕ → ℕ → Type 0 = λ u v. Lowers f hash p u v low r in
-    let g : L (word_at f (slot_place pos len hash j)) (word_at f (slot_place pos len hash j + 4)) =
-    subst (λ (v : ℕ). L (word_at f (slot_place pos len hash j)) v) b (subst (λ (u : ℕ). L u w.second) a k) in
+    let g : Lowers f hash p (word_at f (slot_place pos len hash j)) (word_at f (slot_place pos len hash j + 4)) low r = rw (a, b) at k in
     ⊎_elim
-    (λ x. subst (Lowest f pos len hash p (j + 1) best) (sym x.1) (lowest_some f pos len hash p j best low h (word_at f (slot_place pos len hash j + 4)) x.0 refl))
-    (λ x. subst (Lowest f pos len hash p (j + 1) best) (sym x.1) (lowest_none f pos len hash p j best low h x.0))
+    (λ x. rw x.1 (lowest_some f pos len hash p j best low h (word_at f (slot_place pos len hash j + 4)) x.0 refl))
+    (λ x. rw x.1 (lowest_none f pos len hash p j best low h x.0))
     g
 
 -- below m no slot holds a hash and a place, or one is the first that does
@@ -140,9 +138,7 @@ module _ (f : List ℕ) (p h : ℕ) (r : Words) (e : h ≡ hash_of (item_at f p)
   is_len = pair.1 ∙ ap (λ (z : ℕ). word_at f (8 * (z % 256) + 4)) e
 
   pub at_table : (Q : ℕ → ℕ → ℕ → Type 0) → Q r.first r.second h → Q (table_pos f (item_at f p).key) (table_len f (item_at f p).key) (hash_of (item_at f p).key)
-  at_table Q x =
-      subst (λ (w : ℕ). Q (table_pos f (item_at f p).key) (table_len f (item_at f p).key) w) e
-      (subst (λ (v : ℕ). Q (table_pos f (item_at f p).key) v h) is_len (subst (λ (u : ℕ). Q u r.second h) is_pos x))
+  at_table Q x = rw (← is_pos, ← is_len, ← e) x
 
 -- what a search in the key's table says of the record at p
 pub located : (f : List ℕ) (p best : ℕ) (r : Result Search FileFault) → 0 < p
