@@ -237,11 +237,8 @@ pub record Upto (m : Meaning) (p : ℕ) (ys : List ℕ) (s : Pieces) (n : Meanin
   pub len : s.len ≡ length ys
   pub done : Completed m p (take s.done ys) n
 
--- the loop over the pieces: its start, a piece more, and the piece at which it stops
+-- the loop over the pieces: a piece more, and the piece at which it stops
 module _ (m : Meaning) (p : ℕ) (ys : List ℕ) (h : Whole m) (l : p + length ys ≤ 512 * m.sectors) where
-  pub begun : {s : Pieces} → s.start ≡ p → s.done ≡ 0 → s.len ≡ length ys → Upto m p ys s m
-  begun a b e = record { start = a; len = e; done = rw b (completed_none m p (omega (arith, h.long))) }
-
   piece_more : {n : Meaning} {w : Piece} {s t : Pieces} {zs : List ℕ} (r : Answer) (o : Meaning) → Upto m p ys s n → IsNext s w t → zs ≡ take (w.to - w.from) (drop w.from ys) → Written n w.place zs r o
       → (t.done ≤ length ys) × Runs m p (take t.done ys) r o
   piece_more {n} {w} {s} {t} {zs} r o u next e x =

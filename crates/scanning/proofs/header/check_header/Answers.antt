@@ -1,29 +1,11 @@
-use Rattle.std.proofs.Common.{◌≡◌, ◌+◌, ◌-◌, ◌*◌, length, sym, refl, ap, ◌∙◌, arith, rules, below_more}
-use Rattle.std.proofs.lemmas.Bool.Decides.{not_from_Decides}
+use Rattle.std.proofs.Common.{◌≡◌, ◌+◌, ◌-◌, ◌*◌, length, sym, refl, ap, ◌∙◌, arith, below_more}
 use Rattle.cdb.specs.Files.{position, ends}
 use Rattle.cdb.specs.Rules.{Rule2, Each}
 use Rattle.file.specs.Extents.{WordsAt}
 use Rattle.file.specs.ReadableFiles.{contents}
 use Rattle.file.proofs.SameFiles.{same_file_then}
-use Rattle.scanning.proofs.Entries.{entry_stands, entry_read, next_due}
+use Rattle.scanning.proofs.Entries.{entry_stands, next_due}
 use Rattle.scanning.proofs.header.check_header.Goals as goal
-
-pub returns-then-not-stands-clause-answer : goal.returns-then-not-stands-clause-answer
-returns-then-not-stands-clause-answer g c =
-    let f = contents c.args.file.now in
-    let t = c.loop-t.t in
-    let r = c.words-entry.result in
-    let inv = c.loop-t.invariant in
-    let pair : WordsAt f (8 * t) r = rw inv.same.contents at c.words-entry.ensures.words in
-    record {
-      table = t;
-      first = record {
-        within = search rules;
-        before = inv.kept;
-        broken = λ s. not_from_Decides c.stands.result c.stands.ensures c.if-not-stands.true (entry_read f c.len-len.result t c.loop-t.due r (sym c.len-len.ensures) pair inv.due s);
-      };
-      told = refl;
-    }
 
 pub loop-t-preserved : goal.loop-t-preserved
 loop-t-preserved g c =

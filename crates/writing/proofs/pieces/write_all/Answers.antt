@@ -1,9 +1,6 @@
-use Rattle.std.proofs.Common.{refl, rules}
-use Rattle.writing.proofs.Running.{begun, turned, stopped}
+use Rattle.std.proofs.Common.{refl}
+use Rattle.writing.proofs.Running.{turned, stopped}
 use Rattle.writing.proofs.pieces.write_all.Goals as goal
-
-pub loop-piece-init : goal.loop-piece-init
-loop-piece-init g c = begun _ c.args.place c.args.bytes.now (g.met.D.Device.whole c.args.d.now) c.requires.within (search rules) (search rules) (search rules)
 
 pub returns-in_err-write : goal.returns-in_err-write
 returns-in_err-write g c = record {

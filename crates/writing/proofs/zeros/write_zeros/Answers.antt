@@ -1,15 +1,9 @@
-use Rattle.std.proofs.Common.{◌≡◌, replicate, sym, ◌∙◌, arith, rules}
+use Rattle.std.proofs.Common.{replicate, arith}
 use Rattle.device.specs.declared.pieces.Piece.{Piece}
 use Rattle.device.specs.Pieces.{IsNext}
-use Rattle.writing.proofs.Running.{begun, turned, stopped}
+use Rattle.writing.proofs.Running.{turned, stopped}
 use Rattle.writing.proofs.Zeroed.{next_zeros, zeros_long}
 use Rattle.writing.proofs.zeros.write_zeros.Goals as goal
-
-pub loop-piece-init : goal.loop-piece-init
-loop-piece-init g c =
-    let l = zeros_long c.args.n in
-    let n : c.into_iter-piece-iterator.result.len ≡ c.args.n = search rules in
-    begun _ c.args.place (replicate c.args.n 0) (g.met.D.Device.whole c.args.d.now) (omega (arith, c.requires.within)) (search rules) (search rules) (n ∙ sym l)
 
 pub returns-in_err-write : goal.returns-in_err-write
 returns-in_err-write g c =
