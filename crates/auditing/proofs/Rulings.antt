@@ -198,7 +198,7 @@ entry_refuses f long r y i h = handed_on f r y i (rw h.told (broken_2 long h.fir
 -- the steps in turn, each of which has found the same bytes
 module _ (f : List ℕ) {f1 f2 : List ℕ} (long : Rule1 f) (end : ℕ) (header : Header f end) (s1 : f1 ≡ f) (s2 : f2 ≡ f1) where
   pub past_refuses : (r : Result Counts FileFault) (y : FileFault) → IsErrAnd r (λ z. z ≡ y) → EndsPast f1 end y → Judged f (verdict r)
-  past_refuses r y i h = 
+  past_refuses r y i h =
       let p : EndsPast f end y = rw s1 at h in
       let past : Past f (position f 0) p.0 = rw header.first at p.2 in
       handed_on f r y i (rw p.1 (broken_3 long header.entries past))

@@ -1,4 +1,3 @@
-use Rattle.std.proofs.Common.{arith}
 use Rattle.std.proofs.lemmas.Result.{err_from_is_err_and}
 use Rattle.building.proofs.Grown.{put_within, put_reads, put_room, put_more, put_lost}
 use Rattle.building.proofs.filling.fill.Goals as goal
