@@ -2,17 +2,18 @@
 
 ghost use Rattle.std.specs.Prelude.{◌≡◌, ℕ, ◌+◌, ◌-◌, ◌*◌, ◌/◌, ◌%◌, ◌^◌, ◌<◌, ◌≤◌, true, length};
 ghost use Rattle.byte_lists.specs.Bytes.{part, Bytes};
-ghost use Rattle.device.specs.Meanings.{endless, Whole};
+ghost use Rattle.device.specs.Meanings.{endless, Whole, within};
 ghost use Rattle.std.proofs.Props.{props};
 ghost use Rattle.memory.specs.Memories.{memory, fitting};
 ghost use Rattle.lookup_changing.specs.Flips.{beside, flipped};
 
-use byte_lists::slices::{copy_part, know_bytes};
+use byte_lists::slices::know_bytes;
 use device::checks::is_within;
 use device::device::Device;
 use faults::device::DeviceFault;
 use file::extents::Extent;
 use lookup_runs::changing::Changing;
+use memory::sectors::{copy_out, count_sectors};
 
 /// A place outside an extent.
 fn place_beside(extent: Extent) -> usize
@@ -43,7 +44,7 @@ impl<'a> FlippingMemory<'a> {
         ensures bytes { Bytes result.bytes.now }
     {
         know_bytes(bytes);
-        let sectors = (bytes.len() / 512).min(8388607) as u32;
+        let sectors = count_sectors(bytes);
         FlippingMemory { bytes, sectors }
     }
 
@@ -58,12 +59,13 @@ impl<'a> FlippingMemory<'a> {
         }
     }
 
-    /// Fills `piece` from `place` on.
-    fn fill(&self, place: usize, piece: &mut [u8])
-        requires { place + length piece.old ≤ length self.now.bytes.now }
-        ensures { piece.new ≡ part self.now.bytes.now place (length piece.old) }
+    /// Fills `piece` with what the device holds at `place`.
+    // It takes the device shared, so that reading is known to leave it.
+    fn fill(&self, place: u32, piece: &mut [u8])
+        requires { within (fitting self.now.bytes.now) place (length piece.old) ≡ true }
+        ensures { piece.new ≡ part (memory self.now.bytes.now true endless).bytes place (length piece.old) }
     {
-        copy_part(self.bytes, place, piece);
+        copy_out(self.bytes, place, piece);
     }
 }
 
@@ -87,7 +89,7 @@ impl<'a> Device for FlippingMemory<'a> {
         if !is_within(self.sectors, place, piece.len()) {
             return Err(DeviceFault::Range);
         }
-        self.fill(place as usize, piece);
+        self.fill(place, piece);
         Ok(())
     }
 }

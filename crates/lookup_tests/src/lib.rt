@@ -5,6 +5,7 @@ ghost use Rattle.std.specs.Prelude.{◌+◌, ◌*◌, ◌^◌, ◌<◌, ◌≤�
 
 #[cfg(test)]
 mod tests {
+    use checks::put_word;
     use device::device::Device;
     use faults::device::DeviceFault;
     use faults::file::{FileFault, Located};
@@ -24,45 +25,40 @@ mod tests {
         Ok(next(d, cursor, key)?.map(|found| found.place))
     }
 
-    fn put(file: &mut [u8; 3072], place: usize, n: u32)
-        requires { place + 4 ≤ 3072 }
-    {
-        file[place..place + 4].copy_from_slice(&n.to_le_bytes());
-    }
-
     // A header whose only table with slots is `table`, at `position`.
-    fn header(file: &mut [u8; 3072], table: usize, position: u32, slots: u32)
+    fn header(file: &mut [u8; 3072], table: usize, position: u32, slots: u32) -> Result<(), Fail>
         requires { position + 8 * slots < 2 ^ 32 }
     {
         let end = position + 8 * slots;
         for t in 0..256 {
-            put(file, 8 * t, if t <= table { position } else { end });
-            put(file, 8 * t + 4, if t == table { slots } else { 0 });
+            put_word(file, 8 * t, if t <= table { position } else { end })?;
+            put_word(file, 8 * t + 4, if t == table { slots } else { 0 })?;
         }
+        Ok(())
     }
 
     // Two records of the key `a`, with the data `1` and `2`, in four slots of table 196: 2,100 bytes.
-    fn twice_a() -> [u8; 3072] {
+    fn twice_a() -> Result<[u8; 3072], Fail> {
         let mut file = [0; 3072];
-        header(&mut file, 196, 2068, 4);
-        put(&mut file, 2048, 1);
-        put(&mut file, 2052, 1);
+        header(&mut file, 196, 2068, 4)?;
+        put_word(&mut file, 2048, 1)?;
+        put_word(&mut file, 2052, 1)?;
         file[2056] = b'a';
         file[2057] = b'1';
-        put(&mut file, 2058, 1);
-        put(&mut file, 2062, 1);
+        put_word(&mut file, 2058, 1)?;
+        put_word(&mut file, 2062, 1)?;
         file[2066] = b'a';
         file[2067] = b'2';
-        put(&mut file, 2076, 177604);
-        put(&mut file, 2080, 2048);
-        put(&mut file, 2084, 177604);
-        put(&mut file, 2088, 2058);
-        file
+        put_word(&mut file, 2076, 177604)?;
+        put_word(&mut file, 2080, 2048)?;
+        put_word(&mut file, 2084, 177604)?;
+        put_word(&mut file, 2088, 2058)?;
+        Ok(file)
     }
 
     #[test]
     fn gives_all_data_of_a_key_then_none(rt: HostRuntime) -> Result<(), Fail> {
-        let file = twice_a();
+        let file = twice_a()?;
         let mut d = ReadMemory::new(&file);
         let extent = Extent::new(0, 2100)?;
         let mut cursor = start(&mut d, extent, b"a")?;
@@ -75,7 +71,7 @@ mod tests {
 
     #[test]
     fn fetches_what_was_found(rt: HostRuntime) -> Result<(), Fail> {
-        let file = twice_a();
+        let file = twice_a()?;
         let mut d = ReadMemory::new(&file);
         let extent = Extent::new(0, 2100)?;
         let mut cursor = start(&mut d, extent, b"a")?;
@@ -97,7 +93,7 @@ mod tests {
 
     #[test]
     fn misses_an_absent_key_and_an_empty_table(rt: HostRuntime) -> Result<(), Fail> {
-        let file = twice_a();
+        let file = twice_a()?;
         let mut d = ReadMemory::new(&file);
         let extent = Extent::new(0, 2100)?;
         let mut cursor = start(&mut d, extent, b"")?;
@@ -107,7 +103,7 @@ mod tests {
 
     #[test]
     fn refuses_another_key_and_stays(rt: HostRuntime) -> Result<(), Fail> {
-        let file = twice_a();
+        let file = twice_a()?;
         let mut d = ReadMemory::new(&file);
         let extent = Extent::new(0, 2100)?;
         let mut cursor = start(&mut d, extent, b"a")?;
@@ -123,15 +119,15 @@ mod tests {
     #[test]
     fn goes_on_at_the_first_slot_after_the_last(rt: HostRuntime) -> Result<(), Fail> {
         let mut file = [0; 3072];
-        header(&mut file, 5, 2066, 11);
-        put(&mut file, 2052, 1);
+        header(&mut file, 5, 2066, 11)?;
+        put_word(&mut file, 2052, 1)?;
         file[2056] = b'1';
-        put(&mut file, 2061, 1);
+        put_word(&mut file, 2061, 1)?;
         file[2065] = b'2';
-        put(&mut file, 2066, 5381);
-        put(&mut file, 2070, 2057);
-        put(&mut file, 2146, 5381);
-        put(&mut file, 2150, 2048);
+        put_word(&mut file, 2066, 5381)?;
+        put_word(&mut file, 2070, 2057)?;
+        put_word(&mut file, 2146, 5381)?;
+        put_word(&mut file, 2150, 2048)?;
         let mut d = ReadMemory::new(&file);
         let extent = Extent::new(0, 2154)?;
         let mut cursor = start(&mut d, extent, b"")?;
@@ -143,8 +139,8 @@ mod tests {
 
     #[test]
     fn refuses_a_slot_past_the_end(rt: HostRuntime) -> Result<(), Fail> {
-        let mut file = twice_a();
-        header(&mut file, 196, 2097, 4);
+        let mut file = twice_a()?;
+        header(&mut file, 196, 2097, 4)?;
         let mut d = ReadMemory::new(&file);
         let extent = Extent::new(0, 2100)?;
         let mut cursor = start(&mut d, extent, b"a")?;
@@ -158,8 +154,8 @@ mod tests {
 
     #[test]
     fn refuses_a_record_past_the_end(rt: HostRuntime) -> Result<(), Fail> {
-        let mut file = twice_a();
-        put(&mut file, 2052, 44);
+        let mut file = twice_a()?;
+        put_word(&mut file, 2052, 44)?;
         let mut d = ReadMemory::new(&file);
         let extent = Extent::new(0, 2100)?;
         let mut cursor = start(&mut d, extent, b"a")?;
@@ -172,7 +168,7 @@ mod tests {
 
     #[test]
     fn refuses_a_short_file_and_one_that_is_not_there(rt: HostRuntime) -> Result<(), Fail> {
-        let file = twice_a();
+        let file = twice_a()?;
         let mut d = ReadMemory::new(&file);
         let short = Extent::new(0, 2047)?;
         assert_eq!(rt;
@@ -186,7 +182,7 @@ mod tests {
 
     #[test]
     fn meets_a_bad_header_sector_only_where_it_looks(rt: HostRuntime) -> Result<(), Fail> {
-        let file = twice_a();
+        let file = twice_a()?;
         let extent = Extent::new(0, 2100)?;
         let mut d = Marked::new(ReadMemory::new(&file));
         d.mark(3)?;

@@ -2,5 +2,5 @@
 #![tactic(auto)]
 
 pub mod reading;
-mod sectors;
+pub mod sectors;
 pub mod writing;

@@ -8,7 +8,7 @@ ghost use Rattle.memory.specs.Memories.{memory, fitting};
 use byte_lists::slices::{copy_part, know_bytes};
 
 /// As many sectors as fit.
-pub(crate) fn count_sectors(bytes: &[u8]) -> u32
+pub fn count_sectors(bytes: &[u8]) -> u32
     ensures count { result ≡ fitting bytes.now }
     ensures whole { Whole (memory bytes.now true endless) }
 {
@@ -17,7 +17,7 @@ pub(crate) fn count_sectors(bytes: &[u8]) -> u32
 }
 
 /// Fills a piece with what the sectors hold at its place.
-pub(crate) fn copy_out(bytes: &[u8], place: u32, piece: &mut [u8])
+pub fn copy_out(bytes: &[u8], place: u32, piece: &mut [u8])
     requires { within (fitting bytes.now) place (length piece.old) ≡ true }
     ensures { piece.new ≡ part (take (512 * fitting bytes.now) bytes.now) place (length piece.old) }
 {

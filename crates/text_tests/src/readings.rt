@@ -1,6 +1,6 @@
 //! Files in memory, read record by record.
 
-use checks::{check, check_eq};
+use checks::{check_eq, put_word};
 use faults::file::FileFault;
 use records::placed::PlacedRecord;
 use records::reader::RecordReader;
@@ -12,12 +12,6 @@ const BLANK: PlacedRecord<'static> = PlacedRecord {
     data: b"",
     data_place: 0,
 };
-
-fn put_word(file: &mut [u8; 2090], place: usize, word: u32) -> Result<(), Fail> {
-    check(place <= 2086)?;
-    file[place..place + 4].copy_from_slice(&word.to_le_bytes());
-    Ok(())
-}
 
 /// A record at 2048 with key `ab` and data `c`, an empty one at 2059, one at 2067 with key `` and data `\n->`, and table 0 at 2078.
 fn three() -> Result<[u8; 2090], Fail> {
