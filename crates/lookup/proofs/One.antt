@@ -14,18 +14,19 @@ use Rattle.file.specs.Extents.{On, file}
 use Rattle.file.proofs.Readying.{some_none}
 use Rattle.lookup.specs.declared.cursors.Cursor.{Cursor}
 use Rattle.lookup.specs.declared.cursors.Found.{Found}
+use Rattle.lookup.specs.declared.cursors.Step.{Step}
 use Rattle.lookup.specs.declared.cursors.Probe.{Probe}
 use Rattle.lookup.specs.declared.cursors.Probe.TheVariants.{Empty, Other, Match}
 use Rattle.lookup.specs.Keys.{Agrees, Differs, Unread}
 use Rattle.lookup.specs.Probes as probes
 use Rattle.lookup.specs.Probes.{RecordProbe, SlotProbe, key_length, record_end, data_of, table_in, slot_place, slot_hash, slot_record}
 use Rattle.lookup.specs.Nexts as nexts
-use Rattle.lookup.specs.Nexts.{ProbeAt, Passes, Walk, Next, probed_to}
+use Rattle.lookup.specs.Nexts.{ProbeAt, Passes, Walk, Next, Advances, probed_to}
 use Rattle.lookup.specs.Starts as starts
 use Rattle.lookup.specs.Starts.{Start, entry_place, fresh}
 use Rattle.lookup.specs.Fetches as fetches
 use Rattle.lookup.specs.Fetches.{Inside, Takes}
-use Rattle.lookup.specs.OneAnswer.{OnlyStart, OnlyNext, OnlyTakes}
+use Rattle.lookup.specs.OneAnswer.{OnlyStart, OnlyNext, OnlyAdvances, OnlyTakes}
 
 -- a test passes and one thing holds, or it fails and another does
 abbrev Choice : Type 0 → Type 0 → Type 0 → Type 0
@@ -232,6 +233,15 @@ module _ (m : Meaning) (c : Cursor) (key : List ℕ) where
   next_one r d x s b y =
       same_way _ _ _ _ _ (same_way _ _ _ _ _ (walk_one r s d b) (err_one OtherKey r s d b)) (err_one Range r s d b) (next_view r d x) (next_view s b y)
 
+  step_one : (r : Result Step FileFault) → Advances m c key r → OnlyAdvances m c key r
+  step_one (Ok s) a = next_one _ _ a
+  step_one (Err f) a = next_one _ _ a
+
+  -- all that is owed for a step, from its answer
+  pub step_alone : {n : Meaning} (r : Result Step FileFault) → Advances m c key r → n ≡ m
+      → record { answer : Advances m c key r; only : OnlyAdvances m c key r; same : n ≡ m }
+  step_alone r a same = record { answer = a; only = step_one r a; same = same }
+
 module _ (m : Meaning) (e : Extent) (key : List ℕ) where
   abbrev StartView : Result Cursor FileFault → Type 0
   StartView r =
@@ -251,6 +261,11 @@ module _ (m : Meaning) (e : Extent) (key : List ℕ) where
       same_way _ _ _ _ _
       (same_way _ _ _ _ _ (both s r _) (same_way _ _ _ _ _ (both s r _) (refused_one m _ 8 (table_of key) (entry_place key) s r)))
       (both s r _) (start_view s y) (start_view r x)
+
+  -- all that is owed for a start, from its answer
+  pub start_alone : {n : Meaning} (r : Result Cursor FileFault) → Start m e key r → n ≡ m
+      → record { answer : Start m e key r; only : OnlyStart m e key r; same : n ≡ m }
+  start_alone r a same = record { answer = a; only = start_one r a; same = same }
 
 module _ (m : Meaning) (e : Extent) (from end : ℕ) (old : List ℕ) where
   abbrev n : ℕ
@@ -284,3 +299,8 @@ module _ (m : Meaning) (e : Extent) (from end : ℕ) (old : List ℕ) where
   pub takes_one : (r : Result (Unit {0}) FileFault) (new : List ℕ) → Takes m e from end old r new → OnlyTakes m e from end old r new
   takes_one r new x s b y =
       same_way _ _ _ _ _ (same_way _ _ _ _ _ (two s r _ b new _) (stopped_one s r b new)) (two s r _ b new _) (takes_view s b y) (takes_view r new x)
+
+  -- all that is owed for a part of the data, from the answer
+  pub takes_alone : {m' : Meaning} (r : Result (Unit {0}) FileFault) (new : List ℕ) → Takes m e from end old r new → m' ≡ m
+      → record { answer : Takes m e from end old r new; only : OnlyTakes m e from end old r new; same : m' ≡ m }
+  takes_alone r new a same = record { answer = a; only = takes_one r new a; same = same }

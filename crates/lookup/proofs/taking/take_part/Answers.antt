@@ -1,18 +1,18 @@
-use Rattle.std.proofs.Common.{◌≡◌, ℕ, ◌+◌, ◌<◌, List, ◌++◌, length, drop, Ok, Err, Result, sym, refl, ap, ◌∙◌, subst, arith, rules}
+use Rattle.std.proofs.Common.{◌≡◌, ℕ, ◌+◌, ◌<◌, List, ◌++◌, length, drop, Ok, Err, sym, refl, ap, ◌∙◌, subst, arith, rules}
 use Rattle.std.proofs.lemmas.Result.{err_from_is_err_and}
 use Rattle.byte_lists.specs.Bytes.{part}
 use Rattle.byte_lists.proofs.Parts.{part_in}
 use Rattle.faults.specs.declared.device.DeviceFault.{DeviceFault}
-use Rattle.faults.specs.declared.file.FileFault.TheVariants.{Range, Device}
+use Rattle.faults.specs.declared.file.FileFault.TheVariants.{Device}
 use Rattle.faults.specs.Reports.{located}
-use Rattle.faults.proofs.Places.{add_place_err, add_place_ok}
 use Rattle.device.specs.Meanings.{Meaning, Whole}
 use Rattle.file.specs.declared.extents.Extent.{Extent}
 use Rattle.file.specs.Ranges.{FirstBad, Fetched}
 use Rattle.file.specs.Extents.{On, file}
 use Rattle.file.proofs.Turns.{holds_list, holds_all}
 use Rattle.lookup.specs.Fetches.{Inside, Takes, outside, filled, stopped}
-use Rattle.lookup.proofs.One.{takes_one}
+use Rattle.lookup.proofs.One.{takes_alone}
+use Rattle.lookup.proofs.Placed.{placed_err, placed_ok}
 use Rattle.lookup.proofs.taking.take_part.Goals as goal
 use Rattle.lookup.proofs.taking.take_part.Goals.{then-past-end-via-then-past-end, then-past-end-via-else-past-end+then-past-extent}
 
@@ -34,22 +34,18 @@ module _ (m : Meaning) (e : Extent) (from end : ℕ) (old new : List ℕ) (w : W
 
 pub returns-then-not-is_on : goal.returns-then-not-is_on
 returns-then-not-is_on g c =
-    let m : Meaning = g.D.Device.meaning c.args.d.now in
-    let no : On m c.args.extent → ⊥ = λ h. grind arith in
-    let a : Takes m c.args.extent c.args.from c.args.end c.args.buffer.now (Err Range) c.args.buffer.now = outside (λ h. no h.on_device) in
-    record { answer = a; only = takes_one m c.args.extent c.args.from c.args.end c.args.buffer.now _ _ a; same = refl }
+    let no : On (g.D.Device.meaning c.args.d.now) c.args.extent → ⊥ = λ h. grind arith in
+    takes_alone _ _ _ _ _ _ _ (outside (λ h. no h.on_device)) refl
 
 pub returns-then-past-end : goal.returns-then-past-end
 returns-then-past-end g c =
-    let m : Meaning = g.D.Device.meaning c.args.d.now in
-    let n : ℕ = length c.args.buffer.now in
-    let no : Inside m c.args.extent c.args.from c.args.end n → ⊥ = λ h.
+    takes_alone _ _ _ _ _ _ _
+    (outside (λ h.
     elim c.then-past-end.branch [
       | then-past-end-via-then-past-end w ↦ omega (arith, w.if-past-end.true, h.in_data)
       | then-past-end-via-else-past-end+then-past-extent w ↦ omega (arith, w.if-past-extent.true, h.in_file)
-    ] in
-    let a : Takes m c.args.extent c.args.from c.args.end c.args.buffer.now (Err Range) c.args.buffer.now = outside no in
-    record { answer = a; only = takes_one m c.args.extent c.args.from c.args.end c.args.buffer.now _ _ a; same = refl }
+    ]))
+    refl
 
 pub returns-in_err-add_place : goal.returns-in_err-add_place
 returns-in_err-add_place g c =
@@ -59,11 +55,10 @@ returns-in_err-add_place g c =
     let on : On m e = search rules in
     let i : Inside m e from c.args.end (length c.args.buffer.now) = record { on_device = on; in_file = omega arith; in_data = omega arith } in
     let r = err_from_is_err_and c.from_residual.result c.from_residual.ensures.1 in
-    let b = add_place_err c.read_part.result c.add_place.result c.in_err-add_place.field-0.0 256 from c.add_place.ensures c.in_err-add_place.was in
-    let h = subst (λ (x : Result (Unit {0}) DeviceFault). Fetched m (e.start + from) c.args.buffer.now x c.read_part.new.buffer) b.1 c.read_part.ensures.filled in
+    let b = placed_err (λ x. Fetched m (e.start + from) c.args.buffer.now x c.read_part.new.buffer) 256 from c.read_part.ensures.filled c.add_place.ensures c.in_err-add_place.was in
     let a : Takes m e from c.args.end c.args.buffer.now c.from_residual.result c.read_part.new.buffer =
-    rw (r.1, r.2, b.2) (halted m e from c.args.end c.args.buffer.now c.read_part.new.buffer (g.met.D.Device.whole c.args.d.now) i b.0 h) in
-    record { answer = a; only = takes_one m e from c.args.end c.args.buffer.now _ _ a; same = c.read_part.ensures.same }
+    rw (r.1, r.2, b.2) (halted m e from c.args.end c.args.buffer.now c.read_part.new.buffer (g.met.D.Device.whole c.args.d.now) i b.0 b.1) in
+    takes_alone m e from c.args.end c.args.buffer.now _ _ a c.read_part.ensures.same
 
 pub returns : goal.returns
 returns g c =
@@ -72,7 +67,5 @@ returns g c =
     let from : ℕ = c.args.from in
     let on : On m e = search rules in
     let i : Inside m e from c.args.end (length c.args.buffer.now) = record { on_device = on; in_file = omega arith; in_data = omega arith } in
-    let b = add_place_ok c.read_part.result c.add_place.result tt 256 from c.add_place.ensures c.in_ok-add_place.was in
-    let h = subst (λ (x : Result (Unit {0}) DeviceFault). Fetched m (e.start + from) c.args.buffer.now x c.read_part.new.buffer) b c.read_part.ensures.filled in
-    let a = took m e from c.args.end c.args.buffer.now c.read_part.new.buffer (g.met.D.Device.whole c.args.d.now) i h in
-    record { answer = a; only = takes_one m e from c.args.end c.args.buffer.now _ _ a; same = c.read_part.ensures.same }
+    let h = placed_ok (λ x. Fetched m (e.start + from) c.args.buffer.now x c.read_part.new.buffer) 256 from c.read_part.ensures.filled c.add_place.ensures c.in_ok-add_place.was in
+    takes_alone m e from c.args.end c.args.buffer.now _ _ (took m e from c.args.end c.args.buffer.now c.read_part.new.buffer (g.met.D.Device.whole c.args.d.now) i h) c.read_part.ensures.same

@@ -2,7 +2,6 @@ use Rattle.std.proofs.Common.{◌≡◌, ℕ, ◌+◌, Bool, List, length, Ok, E
 use Rattle.std.proofs.lemmas.Result.{err_from_is_err_and}
 use Rattle.faults.specs.declared.device.DeviceFault.{DeviceFault}
 use Rattle.faults.specs.declared.file.FileFault.{FileFault}
-use Rattle.faults.proofs.Places.{add_place_err, add_place_ok}
 use Rattle.device.specs.Meanings.{Meaning}
 use Rattle.file.specs.declared.extents.Extent.{Extent}
 use Rattle.file.specs.Extents.{file}
@@ -14,7 +13,7 @@ use Rattle.lookup.specs.Searches.{Kept}
 use Rattle.lookup.specs.Probes as probes
 use Rattle.lookup.specs.Probes.{Illegible, RecordProbe, table_in}
 use Rattle.lookup.proofs.Kept.{moved}
-use Rattle.lookup.proofs.Placed.{found_is}
+use Rattle.lookup.proofs.Placed.{found_is, placed_err, placed_ok}
 use Rattle.lookup.proofs.searching.Search.probe_record.Goals as goal
 
 illegible : (m : Meaning) (e : Extent) (t : ℕ) (key : List ℕ) (p : ℕ) (f : FileFault) → Illegible m e t p f → RecordProbe m e t key p (Err f)
@@ -22,10 +21,9 @@ illegible m e t key p f (probes.past l) = probes.words_past l
 illegible m e t key p f (probes.bad l b) = probes.words_bad l b
 
 -- what comparing the key answered, of the lookup as it was
-compared : {D B : _} {s t : Search D B} → Kept s t → (p : ℕ) (q r : Result Bool DeviceFault) → q ≡ r
-    → Compared (B.meaning t.device.now) t.cursor.extent p t.key.now q → Compared (B.meaning s.device.now) s.cursor.extent p s.key.now r
-compared {B = B} {s = s} kept p q r same h =
-    subst (λ (x : Result Bool DeviceFault). Compared (B.meaning s.device.now) s.cursor.extent p s.key.now x) same (moved kept (λ m u k. Compared m u.extent p k q) h)
+compared : {D B : _} {s t : Search D B} → Kept s t → (p : ℕ) (r : Result Bool DeviceFault)
+    → Compared (B.meaning t.device.now) t.cursor.extent p t.key.now r → Compared (B.meaning s.device.now) s.cursor.extent p s.key.now r
+compared kept p r h = moved kept (λ m u k. Compared m u.extent p k r) h
 
 pub returns-in_err-words-clause-probe : goal.returns-in_err-words-clause-probe
 returns-in_err-words-clause-probe g c =
@@ -46,17 +44,17 @@ returns-in_err-same-clause-probe g c =
     let w = c.in_ok-words.ensures.probe in
     let long : length c.words.new.self.key.now ≡ length c.args.self.now.key.now = ap (λ k. length k.now) c.words.ensures.kept.key in
     let r = err_from_is_err_and c.from_residual-in_err-same.result c.from_residual-in_err-same.ensures.1 in
-    let b = add_place_err c.compare.result c.add_place.result c.in_err-same.field-0.0 (table_in c.args.self.now.cursor) c.args.place c.add_place.ensures c.in_err-same.was in
-    let h = compared c.words.ensures.kept (c.args.place + 8) c.compare.result (Err b.0) b.1 c.compare.ensures.compared in
-    rw (r.1, r.2, b.2) (probes.key_bad w.0 (omega (arith, w.1, w.2)) (sym w.1 ∙ c.if-words-self.false ∙ long) h)
+    let b = placed_err (Compared _ c.args.self.now.cursor.extent (c.args.place + 8) c.args.self.now.key.now)
+    (table_in c.args.self.now.cursor) c.args.place (compared c.words.ensures.kept _ _ c.compare.ensures.compared) c.add_place.ensures c.in_err-same.was in
+    rw (r.1, r.2, b.2) (probes.key_bad w.0 (omega (arith, w.1, w.2)) (sym w.1 ∙ c.if-words-self.false ∙ long) b.1)
 
 pub returns-then-not-same-clause-probe : goal.returns-then-not-same-clause-probe
 returns-then-not-same-clause-probe g c =
     let w = c.in_ok-words.ensures.probe in
     let long : length c.words.new.self.key.now ≡ length c.args.self.now.key.now = ap (λ k. length k.now) c.words.ensures.kept.key in
-    let b = add_place_ok c.compare.result c.add_place.result c.in_ok-same.same (table_in c.args.self.now.cursor) c.args.place c.add_place.ensures c.in_ok-same.was in
-    let h = compared c.words.ensures.kept (c.args.place + 8) c.compare.result _ (b ∙ ap (λ (x : Bool). Ok x) c.if-not-same.true) c.compare.ensures.compared in
-    probes.other_key w.0 (omega (arith, w.1, w.2)) (sym w.1 ∙ c.if-words-self.false ∙ long) h
+    let h = placed_ok (Compared _ c.args.self.now.cursor.extent (c.args.place + 8) c.args.self.now.key.now)
+    (table_in c.args.self.now.cursor) c.args.place (compared c.words.ensures.kept _ _ c.compare.ensures.compared) c.add_place.ensures c.in_ok-same.was in
+    probes.other_key w.0 (omega (arith, w.1, w.2)) (sym w.1 ∙ c.if-words-self.false ∙ long) (rw c.if-not-same.true at h)
 
 pub returns-clause-probe : goal.returns-clause-probe
 returns-clause-probe g c =
@@ -64,7 +62,7 @@ returns-clause-probe g c =
     let e : Extent = c.args.self.now.cursor.extent in
     let w = c.in_ok-words.ensures.probe in
     let long : length c.words.new.self.key.now ≡ length c.args.self.now.key.now = ap (λ k. length k.now) c.words.ensures.kept.key in
-    let b = add_place_ok c.compare.result c.add_place.result c.in_ok-same.same (table_in c.args.self.now.cursor) c.args.place c.add_place.ensures c.in_ok-same.was in
-    let h = compared c.words.ensures.kept (c.args.place + 8) c.compare.result _ (b ∙ ap (λ (x : Bool). Ok x) c.if-not-same.false) c.compare.ensures.compared in
+    let h = placed_ok (Compared _ c.args.self.now.cursor.extent (c.args.place + 8) c.args.self.now.key.now)
+    (table_in c.args.self.now.cursor) c.args.place (compared c.words.ensures.kept _ _ c.compare.ensures.compared) c.add_place.ensures c.in_ok-same.was in
     subst (λ (f : Found). RecordProbe m e (table_in c.args.self.now.cursor) c.args.self.now.key.now c.args.place (Ok (Match f))) (sym (found_is (file m e) c.args.place _ _ w.1 w.2))
-    (probes.same_key w.0 (omega (arith, w.1, w.2)) (sym w.1 ∙ c.if-words-self.false ∙ long) h)
+    (probes.same_key w.0 (omega (arith, w.1, w.2)) (sym w.1 ∙ c.if-words-self.false ∙ long) (rw c.if-not-same.false at h))
