@@ -18,7 +18,7 @@ use Rattle.lookup_runs.proofs.Held.{Holding}
 use Rattle.lookup_runs.proofs.Walking.{data_of_item, head_of, State}
 use Rattle.lookup_runs.proofs.Giving.{next_step, first, first_found, start_state, start_done}
 use Rattle.lookup_nth.specs.Nths as nths
-use Rattle.lookup_nth.specs.Nths.{numbered, NthFrom, Nth, OnlyNth}
+use Rattle.lookup_nth.specs.Nths.{numbered, NthFrom, Nth, OnlyNth, NthGivesRecord, TwoDataOfOneKey}
 
 abbrev Answers : Type 0
 Answers = Result (Option Found) FileFault
@@ -104,3 +104,9 @@ nth_is m e key rs rd law n r (nths.started {c = c} a x) =
     let q : Ok c ≡ Ok (fresh m e key) = start_done m e rs key (Ok c) rd law a in
     let z : c ≡ fresh m e key = cc in
     fresh_is m e key rs rd (by_table (file m e) rs law) n r (subst (λ (u : Cursor). NthFrom m key u n r) z x)
+
+-- all that is owed for a number, from its answer
+pub nth_alone : (m : Meaning) (e : Extent) (key : List ℕ) (n : ℕ) (r : Answers) → Nth m e key n r → {m' : Meaning} → m' ≡ m
+    → record { answer : Nth m e key n r; only : OnlyNth m e key n r; law : NthGivesRecord m e key n r; sample : TwoDataOfOneKey; same : m' ≡ m }
+nth_alone m e key n r a same =
+    record { answer = a; only = nth_one m e key n r a; law = λ rs rd law. nth_is m e key rs rd law n r a; sample = (refl, refl, refl, refl); same = same }

@@ -1,9 +1,10 @@
 -- The law of lookups.
 use Rattle.std.proofs.Common.{◌≡◌, ℕ, zero, suc, ◌+◌, ◌*◌, ◌<◌, ◌≤◌, Bool, true, false, List, [], ◌∷◌, ◌++◌, map, length, Some, None, Ok, Err, filter, Option, Result, sym, refl, ap, ◌∙◌, subst, inl, inr, ⊎_elim, mod-lt, arith}
-use Rattle.std.proofs.lemmas.List.{length-append}
+use Rattle.std.proofs.lemmas.List.{length-append, append-nil, append_assoc}
 use Rattle.std.proofs.lemmas.Slice.Eq.{bytes_eq-Decides}
 use Rattle.std.proofs.lemmas.Bool.{cond-true, cond-false, cases_Bool}
 use Rattle.std.specs.List.{ContainsAt as Has, AllByRecursion}
+use Rattle.std.proofs.ByRecursion.{All-push}
 use Rattle.std.specs.Str.{bytes_eq}
 use Rattle.byte_lists.specs.Bytes.{part, laid}
 use Rattle.byte_lists.proofs.Parts.{part_in}
@@ -54,14 +55,6 @@ nexts_more (strayed r ∷ es) ev = nexts_more es ev
 nexts_more (fetched w x old r new ∷ es) ev = nexts_more es ev
 nexts_more (skipped ∷ es) ev = nexts_more es ev
 
-nil : (rs : List Answered) → rs ++ [] ≡ rs
-nil [] = refl
-nil (v ∷ rs) = ap (λ (ws : List Answered). v ∷ ws) (nil rs)
-
-each_more : (P : Event → Type 0) (es : List Event) (ev : Event) → AllByRecursion P es → P ev → AllByRecursion P (es ++ ev ∷ [])
-each_more P [] ev a f = (f, tt)
-each_more P (x ∷ es) ev a f = (a.0, each_more P es ev a.1 f)
-
 wrote_more : (es : List Event) (ev : Event) (b : List ℕ) → wrote (es ++ ev ∷ []) b ≡ wrote (ev ∷ []) (wrote es b)
 wrote_more [] ev b = refl
 wrote_more (asked r ∷ es) ev b = wrote_more es ev b
@@ -90,24 +83,16 @@ wrote_first (strayed r) es b = refl
 wrote_first (fetched w x old r new) es b = refl
 wrote_first skipped es b = refl
 
-nil_answers : (xs : List Answer) → xs ++ [] ≡ xs
-nil_answers [] = refl
-nil_answers (x ∷ xs) = ap (λ (ys : List Answer). x ∷ ys) (nil_answers xs)
-
-append_more : (xs : List Answer) (y : Answer) (zs : List Answer) → (xs ++ y ∷ []) ++ zs ≡ xs ++ y ∷ zs
-append_more [] y zs = refl
-append_more (x ∷ xs) y zs = ap (λ (ys : List Answer). x ∷ ys) (append_more xs y zs)
-
 tied_more : (key b : List ℕ) (done : List Answer) (ks : List calls.Call) (es : List Event) (k : calls.Call) (ev : Event) → AllTied key b done ks es
     → Tied key (wrote es b) (done ++ log es) k ev → AllTied key b done (ks ++ k ∷ []) (es ++ ev ∷ [])
-tied_more key b done [] [] k ev a t = (subst (λ (xs : List Answer). Tied key b xs k ev) (nil_answers done) t, tt)
+tied_more key b done [] [] k ev a t = (subst (λ (xs : List Answer). Tied key b xs k ev) (append-nil done) t, tt)
 tied_more key b done [] (x ∷ es) k ev a t = absurd a
 tied_more key b done (j ∷ ks) [] k ev a t = absurd a
 tied_more key b done (j ∷ ks) (x ∷ es) k ev a t =
     let t1 : Tied key (wrote es (wrote (x ∷ []) b)) (done ++ told x ∷ log es) k ev =
     subst (λ (c : List ℕ). Tied key c (done ++ told x ∷ log es) k ev) (sym (wrote_first x es b)) t in
     let t2 : Tied key (wrote es (wrote (x ∷ []) b)) ((done ++ told x ∷ []) ++ log es) k ev =
-    subst (λ (xs : List Answer). Tied key (wrote es (wrote (x ∷ []) b)) xs k ev) (sym (append_more done (told x) (log es))) t1 in
+    subst (λ (xs : List Answer). Tied key (wrote es (wrote (x ∷ []) b)) xs k ev) (sym (append_assoc done (told x ∷ []) (log es))) t1 in
     (a.0, tied_more key (wrote (x ∷ []) b) (done ++ told x ∷ []) ks es k ev a.1 t2)
 
 next_ties : (m : Meaning) (key : List ℕ) (c c' : Cursor) (k : List ℕ) (ev : Event) → AtNext m key c k ev c' → TiedNext key k ev
@@ -172,10 +157,6 @@ record Source (whole : List ℕ) (p end : ℕ) (rs : List Record) (key : List �
   found : x ≡ data_at at of
   holds : part whole (at + 8 + length of.key) (length of.data') ≡ of.data'
   fits : at + size of ≤ end
-
-records_low : (whole : List ℕ) (p end : ℕ) (rs : List Record) → Records whole p end rs → p ≤ end
-records_low whole p end [] h = omega arith
-records_low whole p end (r ∷ rs) h = omega (arith, h.4)
 
 source : (whole : List ℕ) (p end : ℕ) (rs : List Record) (key : List ℕ) (x : Found) → Records whole p end rs → Has (datas p rs key) x → Source whole p end rs key x
 source whole p end [] key x h i = absurd (has_nil x i)
@@ -303,10 +284,10 @@ module _ (whole : List ℕ) (rs : List Record) (law : LawfulFile whole rs) (e : 
   -- an event that is not a next with the key
   sofar_same : (es : List Event) (ev : Event) (c c' : Cursor) → Sofar es c → nexts_of (ev ∷ []) ≡ [] → Lawfully rs key ev → c' ≡ c → Sofar (es ++ ev ∷ []) c'
   sofar_same es ev c c' s t f q =
-      let u : nexts_of (es ++ ev ∷ []) ≡ nexts_of es = nexts_more es ev ∙ ap (λ (rs : List Answered). nexts_of es ++ rs) t ∙ nil (nexts_of es) in
+      let u : nexts_of (es ++ ev ∷ []) ≡ nexts_of es = nexts_more es ev ∙ ap (λ (rs : List Answered). nexts_of es ++ rs) t ∙ append-nil (nexts_of es) in
       record {
         answers = u ∙ s.answers ∙ ap (λ (rs : List Answered). in_turn (length rs) (found first)) (sym u);
-        each = each_more (Lawfully rs key) es ev s.each f;
+        each = All-push (Lawfully rs key) es ev s.each f;
         state = subst (λ (d : Cursor). State whole rs law e key d (left (length (nexts_of (es ++ ev ∷ []))) first)) (sym q) (subst (λ (vs : List Answered). State whole rs law e key c (left (length vs) first)) (sym u) s.state);
       }
 
@@ -319,7 +300,7 @@ module _ (whole : List ℕ) (rs : List Record) (law : LawfulFile whole rs) (e : 
         answers = t ∙ ap (λ (rs : List Answered). rs ++ r ∷ []) s.answers
             ∙ ap (λ (v : Answered). in_turn (length (nexts_of es)) (found first) ++ v ∷ []) k.0
             ∙ sym (in_turn_more (length (nexts_of es)) first) ∙ ap (λ (i : ℕ). in_turn i (found first)) (sym l);
-        each = each_more (Lawfully rs key) es (asked r) s.each tt;
+        each = All-push (Lawfully rs key) es (asked r) s.each tt;
         state = subst (λ (i : ℕ). State whole rs law e key c' (left i first)) (sym l) (subst (State whole rs law e key c') (tail_left (length (nexts_of es)) first) k.1);
       }
 

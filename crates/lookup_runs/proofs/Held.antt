@@ -74,10 +74,6 @@ pub record Read (whole : List ℕ) (end : ℕ) (y : Item) : Type 0 where
   pub stands : part whole (y.place + 8) (length y.key) ≡ y.key
   pub fits : y.place + 8 + (length y.key + word_at whole (y.place + 4)) ≤ end
 
-records_low : (whole : List ℕ) (p end : ℕ) (rs : List Record) → Records whole p end rs → p ≤ end
-records_low whole p end [] h = omega arith
-records_low whole p end (r ∷ rs) h = omega (arith, h.4)
-
 pub item_read : (whole : List ℕ) (p end : ℕ) (rs : List Record) → Records whole p end rs → (y : Item) → Has (items p rs) y → Read whole end y
 item_read whole p end [] h y i = absurd (has_nil y i)
 item_read whole p end (r ∷ rs) h y i =
