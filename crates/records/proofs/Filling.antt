@@ -1,7 +1,7 @@
 -- A lent list that is filled with records.
 use Rattle.std.proofs.Common.{◌≡◌, ℕ, ◌+◌, ◌<◌, ◌≤◌, min, List, [], ◌∷◌, ◌++◌, map, length, take, drop, set, Some, None, Ok, Err, Option, Result, sym, refl, ap, ◌∙◌, subst, ⊎_elim, arith, length-append, length-drop}
 use Rattle.std.proofs.lemmas.Bool.{cases_lt}
-use Rattle.std.proofs.lemmas.List.{take_more_set, map_push, length-map, length-take-le, take-append-le, take_at, drop_at}
+use Rattle.std.proofs.lemmas.List.{length-set, take_more_set, map_push, length-map, length-take-le, take-append-le, take_at, drop_at}
 use Rattle.faults.specs.declared.file.FileFault.{FileFault}
 use Rattle.cdb.specs.Records.{Record, Records, size}
 use Rattle.cdb.specs.Files.{position}
@@ -20,6 +20,7 @@ pub record Filling (f : List ℕ) (p q i n room : ℕ) (fs : List PlacedRecord) 
   pub todo : List Record
   pub ahead : Records f q end todo
   pub count : i + length todo ≡ n
+  pub items : length fs ≡ n
   pub within : end ≤ position f 0
   pub whole : n < room → end ≡ position f 0
 
@@ -27,10 +28,10 @@ placed_push : (f : List ℕ) (p q : ℕ) (xs : List PlacedRecord) (e : PlacedRec
 placed_push f p q [] e r a b = subst (λ (n : ℕ). Placed n (e ∷ [])) (sym r) b
 placed_push f p q (x ∷ xs) e r a b = (a.0, a.1, placed_push f (p + size (record_of x)) q xs e r.5 a.2 b)
 
-pub begun : (f : List ℕ) (p q n room : ℕ) (rs : List Record) (fs : List PlacedRecord) → Records f p q rs → n ≡ length rs → q ≤ position f 0 → (n < room → q ≡ position f 0)
+pub begun : (f : List ℕ) (p q n room : ℕ) (rs : List Record) (fs : List PlacedRecord) → Records f p q rs → n ≡ length rs → length fs ≡ n → q ≤ position f 0 → (n < room → q ≡ position f 0)
     → Filling f p p 0 n room fs
-begun f p q n room rs fs r c w l =
-    record { stand = refl; placed = tt; end = q; todo = rs; ahead = r; count = omega arith; within = w; whole = l }
+begun f p q n room rs fs r c m w l =
+    record { stand = refl; placed = tt; end = q; todo = rs; ahead = r; count = omega arith; items = m; within = w; whole = l }
 
 -- what is still to come starts with a record
 some : (f : List ℕ) (q t i n : ℕ) (todo : List Record) → Records f q t todo → i + length todo ≡ n → i < n → (r : Record) × (rs : List Record) × (todo ≡ r ∷ rs)
@@ -68,6 +69,7 @@ module _ (f : List ℕ) (p q i n room : ℕ) (fs : List PlacedRecord) (w : Filli
         todo = s.1;
         ahead = subst (λ (k : ℕ). Records f k w.end s.1) z h.5;
         count = omega arith;
+        items = length-set fs i e ∙ w.items;
         within = w.within;
         whole = w.whole;
       }
@@ -78,18 +80,19 @@ pub record Handed (f : List ℕ) (p t i n room : ℕ) (fs : List PlacedRecord) (
   pub is : r ≡ Ok (Some handed)
   pub next : Filling f p t (i + 1) n room (set fs i handed)
 
-pub handed : (f : List ℕ) → Rule1 f → TableInside f → (p q t i n room : ℕ) (fs : List PlacedRecord) (r : Result (Option PlacedRecord) FileFault)
-    → Filling f p q i n room fs → i < n → i < length fs → (g : List ℕ) → g ≡ f → Hands g q r t → Handed f p t i n room fs r
-handed f long inside p q t i n room fs (Ok (Some e)) w l m g o k =
-    let h = subst (λ (u : List ℕ). Hands u q (Ok (Some e)) t) o k in
-    record { handed = e; is = refl; next = one_more f p q i n room fs w l t e m h.2 h.3 }
-handed f long inside p q t i n room fs (Ok None) w l m g o k =
-    let h = subst (λ (u : List ℕ). Hands u q (Ok None) t) o k in
-    absurd (not_ended f p q i n room fs w l h.2)
-handed f long inside p q t i n room fs (Err x) w l m g o k =
-    let h = subst (λ (u : List ℕ). Hands u q (Err x) t) o k in
+handed_by : (f : List ℕ) → Rule1 f → TableInside f → (p q t i n room : ℕ) (fs : List PlacedRecord) (r : Result (Option PlacedRecord) FileFault)
+    → Filling f p q i n room fs → i < n → i < length fs → Hands f q r t → Handed f p t i n room fs r
+handed_by f long inside p q t i n room fs (Ok (Some e)) w l m h = record { handed = e; is = refl; next = one_more f p q i n room fs w l t e m h.2 h.3 }
+handed_by f long inside p q t i n room fs (Ok None) w l m h = absurd (not_ended f p q i n room fs w l h.2)
+handed_by f long inside p q t i n room fs (Err x) w l m h =
     absurd (⊎_elim (headed f long inside x)
     (λ (b : Rule1 f × TableInside f × Passing f q x). not_passing f p q i n room fs w l x b.2) h.0)
+
+-- while places are left, a call of the loop hands out a record
+pub handed : {f g : List ℕ} {p q i n room : ℕ} {fs : List PlacedRecord} (r : Result (Option PlacedRecord) FileFault) (t : ℕ) → Rule1 f → TableInside f
+    → Filling f p q i n room fs → i < length fs → g ≡ f → Hands g q r t → Handed f p t i n room fs r
+handed {f = f} {q = q} r t long inside w m o k =
+    handed_by f long inside _ q t _ _ _ _ r w (omega (arith, w.items)) m (subst (λ (u : List ℕ). Hands u q r t) o k)
 
 -- nothing is left to hand out
 pub done : (f : List ℕ) (p q i n room : ℕ) (fs : List PlacedRecord) → Filling f p q i n room fs → n ≤ i → (i ≡ n) × (q ≤ position f 0) × (n < room → q ≡ position f 0)
@@ -103,10 +106,11 @@ done f p q i n room fs w l = done_by w.todo refl
     done_by (r ∷ rs) e = absurd (omega (arith, w.count, ap length e))
 
 -- the first places are filled, and the rest of the list stays
-pub filled : (f : List ℕ) (p q i n room : ℕ) (es fs : List PlacedRecord) → Rule1 f → TableInside f → n ≤ room → room ≡ length es → length fs ≡ n
-    → Filling f p q i n room fs → n ≤ i → Fills f p room es (Ok n) (fs ++ drop n es) q
-filled f p q i n room es fs long inside m r c w l =
-    let d = done f p q i n room fs w l in
+pub filled : (f : List ℕ) (p q i n room : ℕ) (es fs : List PlacedRecord) → Rule1 f → TableInside f → n ≤ room → room ≡ length es
+    → Filling f p q i n room fs → length fs ≤ i → Fills f p room es (Ok n) (fs ++ drop n es) q
+filled f p q i n room es fs long inside m r w l =
+    let c = w.items in
+    let d = done f p q i n room fs w (omega arith) in
     let t : take i fs ≡ take n (fs ++ drop n es) = ap (λ (k : ℕ). take k fs) d.0 ∙ sym (take-append-le n fs (drop n es) (omega arith)) in (
       long,
       inside,
