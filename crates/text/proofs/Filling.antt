@@ -1,7 +1,7 @@
 -- A lent list that is filled with the records of a text.
 use Rattle.std.proofs.Common.{◌≡◌, ℕ, ◌+◌, ◌<◌, ◌≤◌, List, [], ◌∷◌, ◌++◌, map, length, take, drop, set, Some, None, Ok, Err, Option, Result, sym, refl, ap, ◌∙◌, subst, arith, length-append, length-drop}
 use Rattle.std.specs.List.{AllByRecursion}
-use Rattle.std.proofs.lemmas.List.{take_more_set, map_push, length-map, length-take-le, take-append-le, drop_at}
+use Rattle.std.proofs.lemmas.List.{length-set, take_more_set, map_push, length-map, length-take-le, take-append-le, drop_at}
 use Rattle.cdb.specs.Records as cdb
 use Rattle.text.specs.declared.fault.TextFault.{TextFault}
 use Rattle.text.specs.declared.fault.TextFault.TheVariants.{Malformed, Short, Long}
@@ -33,10 +33,11 @@ pub record Filling (t : List ℕ) (q i n : ℕ) (ys : List LentRecord) : Type 0 
   pub todo : List cdb.Record
   pub ahead : TextOf (drop q t) todo
   pub count : i + length todo ≡ n
+  pub items : length ys ≡ n
 
-pub begun : (t : List ℕ) (n : ℕ) (rs : List cdb.Record) (ys : List LentRecord) → TextOf t rs → n ≡ length rs → Filling t 0 0 n ys
-begun t n rs ys a c =
-    record { read = record { proper = tt; is = refl; within = λ l. l }; todo = rs; ahead = a; count = omega arith }
+pub begun : (t : List ℕ) (n : ℕ) (rs : List cdb.Record) (ys : List LentRecord) → TextOf t rs → n ≡ length rs → length ys ≡ n → Filling t 0 0 n ys
+begun t n rs ys a c m =
+    record { read = record { proper = tt; is = refl; within = λ l. l }; todo = rs; ahead = a; count = omega arith; items = m }
 
 -- what is still to come starts with a record
 some : (u : List ℕ) (i n : ℕ) (todo : List cdb.Record) → TextOf u todo → i + length todo ≡ n → i < n → (r : cdb.Record) × (rs : List cdb.Record) × (todo ≡ r ∷ rs)
@@ -70,6 +71,7 @@ module _ (t : List ℕ) (q i n : ℕ) (ys : List LentRecord) (w : Filling t q i 
         todo = s.1;
         ahead = (a.0.1, o.1);
         count = omega arith;
+        items = length-set ys i x ∙ w.items;
       }
 
 -- the next call's answer: a record, which goes to place i of the list
@@ -84,15 +86,19 @@ handed_by t q u i n ys (Ok (Some x)) w l m h = record { handed = x; is = refl; n
 handed_by t q u i n ys (Ok None) w l m h = absurd (not_ended t q i n ys w l h.0)
 handed_by t q u i n ys (Err f) w l m h = absurd (not_refused t q i n ys w l u f h)
 
-pub handed : (t : List ℕ) (q u i n : ℕ) (ys : List LentRecord) (r : Result (Option LentRecord) TextFault) → Filling t q i n ys → i < n → i < length ys
-    → (v : List ℕ) → v ≡ t → Hands v q r u → Handed t u i n ys r
-handed t q u i n ys r w l m v e h = handed_by t q u i n ys r w l m (subst (λ (x : List ℕ). Hands x q r u) e h)
+-- while places are left, a call of the loop hands out a record
+pub handed : {t v : List ℕ} {q i n : ℕ} {ys : List LentRecord} (r : Result (Option LentRecord) TextFault) (u : ℕ) → Filling t q i n ys → i < length ys
+    → v ≡ t → Hands v q r u → Handed t u i n ys r
+handed {q = q} r u w m e h = handed_by _ q u _ _ _ r w (omega (arith, w.items)) m (subst (λ (x : List ℕ). Hands x q r u) e h)
 
 -- all are handed out, and the rest of the list stays
-pub filled : (t : List ℕ) (q i n : ℕ) (xs ys : List LentRecord) → n ≤ length xs → length ys ≡ n → Filling t q i n ys → n ≤ i
+pub filled : (t : List ℕ) (q i n : ℕ) (xs ys : List LentRecord) → n ≤ length xs → Filling t q i n ys → length ys ≤ i
     → Reads t (length xs) xs (Ok n) (ys ++ drop n xs)
-filled t q i n xs ys m b w l = filled_by w.todo refl
+filled t q i n xs ys m w l = filled_by w.todo refl
   where
+    b : length ys ≡ n
+    b = w.items
+
     filled_by : (todo : List cdb.Record) → w.todo ≡ todo → Reads t (length xs) xs (Ok n) (ys ++ drop n xs)
     filled_by [] e =
         let a = subst (TextOf (drop q t)) e w.ahead in
@@ -105,7 +111,7 @@ filled t q i n xs ys m b w l = filled_by w.todo refl
           omega (arith, length-append ys (drop n xs), length-drop n xs),
           drop_at ys (drop n xs) n b,
         )
-    filled_by (r ∷ rs) e = absurd (omega (arith, w.count, ap length e))
+    filled_by (r ∷ rs) e = absurd (omega (arith, w.count, w.items, ap length e))
 
 -- the text of some records gives these records
 pub gives : (t : List ℕ) (room : ℕ) (xs ys : List LentRecord) (r : Result ℕ TextFault) → room ≤ length xs → Reads t room xs r ys → GivesTheRecords t room r ys

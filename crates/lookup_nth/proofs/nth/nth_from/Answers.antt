@@ -10,12 +10,6 @@ use Rattle.lookup_nth.specs.Nths.{NthFrom}
 use Rattle.lookup_nth.proofs.Numbered.{from_later, from_here}
 use Rattle.lookup_nth.proofs.nth.nth_from.Goals as goal
 
-pub loop-init : goal.loop-init
-loop-init g c =
-    let m : Meaning = g.D.Device.meaning c.args.d.now in
-    let z : c.args.n - 0 ≡ c.args.n = omega arith in
-    record { same = refl; going = λ r n. subst (λ (k : ℕ). NthFrom m c.args.key.bytes.now c.args.cursor k r) z n }
-
 -- what a step answered, on the device as it was
 answered : (m n : Meaning) (u : Cursor) (key : List ℕ) (r s : Result Step FileFault) → n ≡ m → r ≡ s → Advances n u key r → Advances m u key s
 answered m n u key r s same was a = subst (λ (k : Meaning). Advances k u key s) same (subst (Advances n u key) was a)

@@ -6,7 +6,7 @@ use Rattle.byte_lists.specs.Bytes.{Bytes}
 use Rattle.text.specs.declared.fault.TextFault.{TextFault}
 use Rattle.text.specs.declared.state.State.{State}
 use Rattle.text.specs.Lexing.{Grows, Dead}
-use Rattle.text.proofs.Turns.{ended, stopped, turned, cut_off, spans, last}
+use Rattle.text.proofs.Turns.{ended, stopped, turned, cut_off, spans}
 use Rattle.text.proofs.scan.scan.Goals as goal
 
 -- where no state is behind the byte, the byte is not taken
@@ -41,9 +41,6 @@ loop-at-preserved c =
     let bytes : Bytes c.args.text.now = All-from_get_or (λ b. b < 256) c.args.text.now 0 (search rules) in
     let g = grows _ _ c.after.result _ _ c.after.ensures c.in_ok-state.ensures.value in
     rw c.skips-skip.ensures (turned _ _ _ _ _ c.loop-at.invariant c.loop-at-test.true g bytes c.in_default.not-Record (omega arith))
-
-pub returns-in-End : goal.returns-in-End
-returns-in-End c = last _ _ _ _ c.loop-at.invariant c.in-End.is c.loop-at-test.false
 
 pub returns-in_default-state : goal.returns-in_default-state
 returns-in_default-state c = ended _ _ _ _ c.loop-at.invariant c.loop-at-test.false c.in_default-state.not-End

@@ -1,5 +1,4 @@
 use Rattle.std.proofs.Common.{◌≡◌, ◌<◌, length, Some, Ok, Err, refl, ◌∙◌, arith}
-use Rattle.std.proofs.lemmas.List.{length-take-le}
 use Rattle.text.specs.declared.fault.TextFault.TheVariants.{Short}
 use Rattle.text.specs.Wholes.{Reads}
 use Rattle.text.proofs.Filling.{handed, filled, gives}
@@ -13,34 +12,24 @@ returns-then-room-n c =
     let k : Reads c.args.text.now (length xs) xs (Err (Short (length xs))) xs = ((a.0, a.1, l), refl, refl) in
     record { reads = k; gives = gives _ _ xs xs _ (omega arith) k }
 
-pub unwrap-requires : goal.unwrap-requires
-unwrap-requires c =
-    let i = c.loop-slot.invariant in
-    let t = length-take-le c.in_ok-n.field-0.records c.args.into.now i.2 in
-    let h = handed _ _ _ _ _ _ _ i.1 (omega (arith, t)) (omega (arith, t)) _ i.0 c.next.ensures.hands in
-    rw h.is refl
-
 pub unwrap-requires-in-loop-slot : goal.unwrap-requires-in-loop-slot
 unwrap-requires-in-loop-slot c =
     let i = c.loop-slot.invariant in
-    let t = length-take-le c.in_ok-n.field-0.records c.args.into.now i.2 in
-    let h = handed _ _ _ _ _ _ _ i.1 (omega (arith, t)) (omega (arith, t)) _ i.0 c.next.ensures.hands in
+    let h = handed c.next.result _ i.filling (omega arith) i.same c.next.ensures.hands in
     let e : c.unwrap.result ≡ Some h.handed = cc in
     rw e refl
 
 pub loop-slot-preserved : goal.loop-slot-preserved
 loop-slot-preserved c =
     let i = c.loop-slot.invariant in
-    let t = length-take-le c.in_ok-n.field-0.records c.args.into.now i.2 in
-    let h = handed _ _ _ _ _ _ _ i.1 (omega (arith, t)) (omega (arith, t)) _ i.0 c.next.ensures.hands in
+    let h = handed c.next.result _ i.filling (omega arith) i.same c.next.ensures.hands in
     let e : c.unwrap-in-loop-slot.result ≡ h.handed = cc in
-    (c.next.ensures.same ∙ i.0, rw e h.next, i.2)
+    record { same = c.next.ensures.same ∙ i.same; filling = rw e h.next; room = i.room }
 
 pub returns : goal.returns
 returns c =
     let i = c.loop-slot.invariant in
     let xs = c.args.into.now in
     let n = c.in_ok-n.field-0.records in
-    let t = length-take-le n xs i.2 in
-    let k = filled _ _ _ n xs _ i.2 (omega arith) i.1 (omega arith) in
+    let k = filled _ _ _ n xs _ i.room i.filling (omega arith) in
     record { reads = k; gives = gives _ _ xs _ (Ok n) (omega arith) k }

@@ -1,4 +1,4 @@
-use Rattle.std.proofs.Common.{refl, arith}
+use Rattle.std.proofs.Common.{arith}
 use Rattle.text_writer.proofs.Telling.{length_no, no_added}
 use Rattle.text_writer.proofs.outcome.put_no.Goals as goal
 
@@ -8,11 +8,3 @@ returns-clause-lays c =
     let b = c.new-sheet.ensures.blank in
     let k = no_added c.args.told c.args.line.now c.new-sheet.result _ _ _ _ b.1 b.0 (omega arith) c.put.ensures c.put_number.ensures c.put_number-2.ensures c.put_number-3.ensures in
     (k.0, k.1, grind arith)
-
-pub returns-then-room-width : goal.returns-then-room-width
-returns-then-room-width c =
-    let z = length_no c.args.told in
-    record {
-      lays = (omega (arith, c.width.ensures.is, c.width-2.ensures.is, c.width-3.ensures.is), refl, refl);
-      enough = λ l. absurd (omega (arith, c.width.ensures.word (omega arith), c.width-2.ensures.word (omega arith), c.width-3.ensures.small));
-    }

@@ -1,4 +1,4 @@
-use Rattle.std.proofs.Common.{refl, arith}
+use Rattle.std.proofs.Common.{arith}
 use Rattle.text_writer.proofs.Telling.{length_ok, ok_added}
 use Rattle.text_writer.proofs.outcome.put_ok.Goals as goal
 
@@ -8,11 +8,3 @@ returns-clause-lays c =
     let b = c.new-sheet.ensures.blank in
     let k = ok_added c.args.counted.records c.args.counted.bytes c.args.line.now c.new-sheet.result _ _ _ b.1 b.0 (omega arith) c.put.ensures c.put_number.ensures c.put_number-2.ensures in
     (k.0, k.1, grind arith)
-
-pub returns-then-room-width : goal.returns-then-room-width
-returns-then-room-width c =
-    let z = length_ok c.args.counted.records c.args.counted.bytes in
-    record {
-      lays = (omega (arith, c.width.ensures.is, c.width-2.ensures.is), refl, refl);
-      enough = λ l. absurd (omega (arith, c.width.ensures.small, c.width-2.ensures.small));
-    }

@@ -1,10 +1,6 @@
 use Rattle.std.proofs.Common.{rules}
 use Rattle.text_writer.proofs.Back.{blank, proper_at, line_fits, one_line_more, end_fits, all_written}
-use Rattle.text_writer.proofs.Laying.{nothing}
 use Rattle.text_writer.proofs.sheet.Sheet.put_text.Goals as goal
-
-pub loop-one-init : goal.loop-one-init
-loop-one-init c = nothing c.args.self.now
 
 pub put_line-requires : goal.put_line-requires
 put_line-requires c =
