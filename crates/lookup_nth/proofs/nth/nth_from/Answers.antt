@@ -14,20 +14,17 @@ use Rattle.lookup_nth.proofs.nth.nth_from.Goals as goal
 answered : (m n : Meaning) (u : Cursor) (key : List ℕ) (r s : Result Step FileFault) → n ≡ m → r ≡ s → Advances n u key r → Advances m u key s
 answered m n u key r s same was a = subst (λ (k : Meaning). Advances k u key s) same (subst (Advances n u key) was a)
 
-pub returns-in_err-step : goal.returns-in_err-step
-returns-in_err-step g c =
-    let m : Meaning = g.D.Device.meaning c.args.d.now in
+pub returns-in_err-step-clause-nth : goal.returns-in_err-step-clause-nth
+returns-in_err-step-clause-nth g c =
     let inv = c.loop.invariant in
     let r = err_from_is_err_and c.from_residual.result c.from_residual.ensures.1 in
-    let a = answered m _ c.loop.at c.args.key.bytes.now c.advance.result (Err _) inv.same c.in_err-step.was c.advance.ensures.answer in
-    record { nth = rw (r.1, r.2) (inv.going _ (nths.refused a)); same = c.advance.ensures.same ∙ inv.same }
+    rw (r.1, r.2) (inv.going _ (nths.refused (answered _ _ c.loop.at _ c.advance.result (Err _) inv.same c.in_err-step.was c.advance.ensures.answer)))
 
-pub returns-in_default : goal.returns-in_default
-returns-in_default g c =
-    let m : Meaning = g.D.Device.meaning c.args.d.now in
+pub returns-in_default-clause-nth : goal.returns-in_default-clause-nth
+returns-in_default-clause-nth g c =
     let inv = c.loop.invariant in
-    let a = answered m _ c.loop.at c.args.key.bytes.now c.advance.result (Ok c.in_ok-step.step) inv.same c.in_ok-step.was c.advance.ensures.answer in
-    record { nth = inv.going (Ok None) (nths.ended (rw c.in_default.is at a)); same = c.advance.ensures.same ∙ inv.same }
+    let a = answered _ _ c.loop.at c.args.key.bytes.now c.advance.result (Ok c.in_ok-step.step) inv.same c.in_ok-step.was c.advance.ensures.answer in
+    inv.going (Ok None) (nths.ended (rw c.in_default.is at a))
 
 pub loop-preserved : goal.loop-preserved
 loop-preserved g c =
@@ -45,15 +42,12 @@ loop-preserved g c =
           inv.going r (from_later m key u (probed_to u s.probed) left c.in-Some.data (omega arith) (rw c.in-Some.is at a) r (subst (λ (k : ℕ). NthFrom m key (probed_to u s.probed) k r) z n));
     }
 
-pub returns-in-Some : goal.returns-in-Some
-returns-in-Some g c =
+pub returns-in-Some-clause-nth : goal.returns-in-Some-clause-nth
+returns-in-Some-clause-nth g c =
     let m : Meaning = g.D.Device.meaning c.args.d.now in
     let key : List ℕ = c.args.key.bytes.now in
     let inv = c.loop.invariant in
     let u : Cursor = c.loop.at in
     let s : Step = c.in_ok-step.step in
     let a = answered m _ u key c.advance.result (Ok s) inv.same c.in_ok-step.was c.advance.ensures.answer in
-    record {
-      nth = inv.going _ (from_here m key u (probed_to u s.probed) (c.args.n - c.loop.counter) c.in-Some.data (omega arith) (rw c.in-Some.is at a));
-      same = c.advance.ensures.same ∙ inv.same;
-    }
+    inv.going _ (from_here m key u (probed_to u s.probed) (c.args.n - c.loop.counter) c.in-Some.data (omega arith) (rw c.in-Some.is at a))
