@@ -28,11 +28,6 @@ placed_push : (f : List ℕ) (p q : ℕ) (xs : List PlacedRecord) (e : PlacedRec
 placed_push f p q [] e r a b = subst (λ (n : ℕ). Placed n (e ∷ [])) (sym r) b
 placed_push f p q (x ∷ xs) e r a b = (a.0, a.1, placed_push f (p + size (record_of x)) q xs e r.5 a.2 b)
 
-pub begun : (f : List ℕ) (p q n room : ℕ) (rs : List Record) (fs : List PlacedRecord) → Records f p q rs → n ≡ length rs → length fs ≡ n → q ≤ position f 0 → (n < room → q ≡ position f 0)
-    → Filling f p p 0 n room fs
-begun f p q n room rs fs r c m w l =
-    record { stand = refl; placed = tt; end = q; todo = rs; ahead = r; count = omega arith; items = m; within = w; whole = l }
-
 -- what is still to come starts with a record
 some : (f : List ℕ) (q t i n : ℕ) (todo : List Record) → Records f q t todo → i + length todo ≡ n → i < n → (r : Record) × (rs : List Record) × (todo ≡ r ∷ rs)
 some f q t i n [] a c l = absurd (omega arith)

@@ -35,10 +35,6 @@ pub record Filling (t : List ℕ) (q i n : ℕ) (ys : List LentRecord) : Type 0 
   pub count : i + length todo ≡ n
   pub items : length ys ≡ n
 
-pub begun : (t : List ℕ) (n : ℕ) (rs : List cdb.Record) (ys : List LentRecord) → TextOf t rs → n ≡ length rs → length ys ≡ n → Filling t 0 0 n ys
-begun t n rs ys a c m =
-    record { read = record { proper = tt; is = refl; within = λ l. l }; todo = rs; ahead = a; count = omega arith; items = m }
-
 -- what is still to come starts with a record
 some : (u : List ℕ) (i n : ℕ) (todo : List cdb.Record) → TextOf u todo → i + length todo ≡ n → i < n → (r : cdb.Record) × (rs : List cdb.Record) × (todo ≡ r ∷ rs)
 some u i n [] a c l = absurd (omega arith)

@@ -1,6 +1,6 @@
 -- Pieces of text laid one behind the other.
-use Rattle.std.proofs.Common.{◌≡◌, ℕ, ◌+◌, ◌≤◌, List, [], ◌∷◌, ◌++◌, length, take, drop, decimal, sym, refl, ap, ◌∙◌, subst, append_assoc, arith, length-append}
-use Rattle.std.proofs.lemmas.List.{take_at, take-append-drop, drop_at, drop-drop, length-take-le}
+use Rattle.std.proofs.Common.{◌≡◌, ℕ, ◌+◌, ◌≤◌, List, [], ◌∷◌, ◌++◌, length, take, drop, decimal, sym, ap, ◌∙◌, subst, append_assoc, arith, length-append}
+use Rattle.std.proofs.lemmas.List.{take_at, drop_at, drop-drop, length-take-le}
 use Rattle.byte_lists.specs.Bytes.{laid}
 use Rattle.cdb.specs.Records.{Record}
 use Rattle.text_writer.specs.Sheets.{Adds}
@@ -34,10 +34,6 @@ both x y s t u l a b =
           ∙ laid_laid s.buffer.now x y s.written (omega arith);
       long = b.long ∙ a.long;
     }
-
--- nothing is written
-pub nothing : (s : Sheet) → Adds [] s s
-nothing s = record { same_reference = refl; written = omega arith; after = sym (take-append-drop s.written s.buffer.now); long = refl }
 
 pieces : (r : Record) → ((((((43 ∷ []) ++ (decimal (length r.key) ++ (44 ∷ []))) ++ (decimal (length r.data') ++ (58 ∷ []))) ++ r.key) ++ (45 ∷ 62 ∷ [])) ++ r.data') ++ (10 ∷ []) ≡ line r
 pieces r = simp append_assoc

@@ -1,13 +1,8 @@
 -- The lines that tell an outcome.
-use Rattle.std.proofs.Common.{◌≡◌, ℕ, ◌+◌, ◌≤◌, List, [], ◌∷◌, ◌++◌, length, Ok, Err, codes, decimal, Result, refl, ap, ◌∙◌, subst, inl, inr, append_assoc, arith, length-append}
+use Rattle.std.proofs.Common.{◌≡◌, ℕ, ◌+◌, ◌≤◌, List, [], ◌∷◌, ◌++◌, length, Ok, codes, decimal, ap, ◌∙◌, subst, append_assoc, arith, length-append}
 use Rattle.byte_lists.specs.Bytes.{laid}
 use Rattle.faults.specs.declared.report.Report.{Report}
-use Rattle.text.specs.declared.fault.TextFault.{TextFault}
-use Rattle.text.specs.declared.fault.TextFault.TheVariants.{Malformed, Short, Long}
-use Rattle.text.specs.declared.tally.Tally.{Tally}
-use Rattle.text.specs.Reports.{text_report}
-use Rattle.text.specs.Wholes.{Tallies}
-use Rattle.text_writer.specs.Outcomes.{ok_line, no_line, Lays, Checks}
+use Rattle.text_writer.specs.Outcomes.{ok_line, no_line, Lays}
 use Rattle.text_writer.specs.Sheets.{Adds}
 use Rattle.text_writer.specs.declared.sheet.Sheet.{Sheet}
 use Rattle.text_writer.proofs.Laying.{both}
@@ -62,17 +57,3 @@ no_added r b s s₁ s₂ s₃ s₄ e f l a₁ a₂ a₃ a₄ =
     let b₃ = both _ _ s s₂ s₃ (omega (arith, length-append {A = ℕ})) b₂ a₃ in
     let b₄ = both _ _ s s₃ s₄ (omega (arith, length-append {A = ℕ})) b₃ a₄ in
     whole (no_line r) b s s₄ e f l (subst (λ (x : List ℕ). Adds x s s₄) (no_pieces r) b₄)
-
--- the line of a count
-pub told_ok : (t : List ℕ) (k : Tally) (room : ℕ) (b : List ℕ) (r : Result ℕ TextFault) (c : List ℕ) → Tallies t (Ok k) → Lays (ok_line k.records k.bytes) room b r c → Checks t room b r c
-told_ok t k room b r c h l = (
-  ok_line k.records k.bytes,
-  inl (h.0, h.1, ap (λ (n : ℕ). ok_line n k.bytes) h.2 ∙ ap (ok_line (length h.0)) h.3),
-  l,
-)
-
--- the line of a refusal
-pub told_no : (t : List ℕ) (f : TextFault) (room : ℕ) (b : List ℕ) (r : Result ℕ TextFault) (c : List ℕ) → Tallies t (Err f) → Lays (no_line (text_report f)) room b r c → Checks t room b r c
-told_no t (Malformed e) room b r c h l = (no_line (text_report (Malformed e)), inr (e, h, refl), l)
-told_no t (Short n) room b r c h l = absurd h
-told_no t Long room b r c h l = absurd h
