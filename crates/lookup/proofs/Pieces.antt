@@ -1,8 +1,8 @@
 -- Comparing piece by piece.
-use Rattle.std.proofs.Common.{◌≡◌, ℕ, suc, ◌+◌, ◌-◌, ◌/◌, ◌%◌, ◌<◌, ◌≤◌, Bool, true, false, ◌⊎◌, List, [], ◌∷◌, length, get_or, take, drop, Ok, Decides, sym, refl, ap, ◌∙◌, subst, inl, inr, ⊎_elim, arith, length-drop}
-use Rattle.std.proofs.lemmas.List.{get_or-take, get_or-drop, length-take}
+use Rattle.std.proofs.Common.{◌≡◌, ℕ, suc, ◌+◌, ◌-◌, ◌*◌, ◌/◌, ◌%◌, ◌<◌, ◌≤◌, Bool, true, false, ◌⊎◌, List, [], ◌∷◌, length, get_or, take, drop, Ok, Decides, sym, refl, ap, ◌∙◌, subst, inl, inr, ⊎_elim, add-zero, arith, length-drop, w8, Fits}
+use Rattle.std.proofs.lemmas.List.{get_or-take, get_or-drop, length-take, same_lists, get_or_default}
 use Rattle.std.proofs.lemmas.Bool.{cases_lt, cases_eq, false≢true}
-use Rattle.byte_lists.specs.Bytes.{part}
+use Rattle.byte_lists.specs.Bytes.{part, word_at}
 use Rattle.byte_lists.proofs.Parts.{get_d_part, part_in}
 use Rattle.faults.specs.declared.device.DeviceFault.{DeviceFault}
 use Rattle.device.specs.Meanings.{Meaning, refuses}
@@ -26,6 +26,41 @@ differ_at (x ∷ xs) (y ∷ ys) l =
     (differ_at xs ys (omega arith)))
     (λ ne. inr (0, omega arith, λ e. absurd (ne e)))
     (cases_eq x y)
+
+-- a byte below 256 times a number
+digits : (x y z w : ℕ) → x < 256 → z < 256 → x + 256 * y ≡ z + 256 * w → (x ≡ z) × (y ≡ w)
+digits x y z w lx lz e =
+    let a : (x + 256 * y) % 256 ≡ x = omega arith in
+    let b : (z + 256 * w) % 256 ≡ z = omega arith in
+    let c : x ≡ z = sym a ∙ ap (λ (k : ℕ). k % 256) e ∙ b in
+    (c, omega arith)
+
+module _ (a b : List ℕ) (i : ℕ) where
+  -- equal words are equal bytes
+  pub words_same : ((j : ℕ) → Fits w8 (get_or a j 0)) → ((j : ℕ) → Fits w8 (get_or b j 0)) → word_at a i ≡ word_at b i → (j : ℕ) → j < 4 → get_or a (i + j) 0 ≡ get_or b (i + j) 0
+  words_same fa fb e j l =
+      let d0 = digits (get_or a i 0) _ (get_or b i 0) _ (fa i).fits (fb i).fits e in
+      let d1 = digits (get_or a (i + 1) 0) _ (get_or b (i + 1) 0) _ (fa (i + 1)).fits (fb (i + 1)).fits d0.1 in
+      let d2 = digits (get_or a (i + 2) 0) (get_or a (i + 3) 0) (get_or b (i + 2) 0) (get_or b (i + 3) 0) (fa (i + 2)).fits (fb (i + 2)).fits d1.1 in
+      let e0 : get_or a (i + 0) 0 ≡ get_or b (i + 0) 0 = rw add-zero d0.0 in
+      let P : ℕ → Type 0 = λ k. get_or a (i + k) 0 ≡ get_or b (i + k) 0 in
+      ⊎_elim (λ (q : j ≡ 0). subst P (sym q) e0)
+      (λ n0. ⊎_elim (λ (q : j ≡ 1). subst P (sym q) d1.0)
+      (λ n1. ⊎_elim (λ (q : j ≡ 2). subst P (sym q) d2.0)
+      (λ n2. let q : j ≡ 3 = omega arith in subst P (sym q) d2.1)
+      (cases_eq j 2)) (cases_eq j 1)) (cases_eq j 0)
+
+  module _ (front : (j : ℕ) → j < i → get_or a j 0 ≡ get_or b j 0) where
+    pub words_more : ((j : ℕ) → j < 4 → get_or a (i + j) 0 ≡ get_or b (i + j) 0) → (j : ℕ) → j < i + 4 → get_or a j 0 ≡ get_or b j 0
+    words_more more j l =
+        ⊎_elim (front j) (λ (c : i ≤ j). let z : i + (j - i) ≡ j = omega arith in subst (λ (k : ℕ). get_or a k 0 ≡ get_or b k 0) z (more (j - i) (omega arith))) (cases_lt j i)
+
+-- pieces of one length that agree up to a place, and in their last word
+pub bytes_all : (a b : List ℕ) (i : ℕ) → length a ≡ length b → 4 ≤ length a → length a ≤ i + 4 → ((j : ℕ) → j < i → get_or a j 0 ≡ get_or b j 0)
+    → ((j : ℕ) → j < 4 → get_or a (length a - 4 + j) 0 ≡ get_or b (length a - 4 + j) 0) → a ≡ b
+bytes_all a b i q four l front last =
+    let all : (j : ℕ) → j < length a - 4 + 4 → get_or a j 0 ≡ get_or b j 0 = words_more a b (length a - 4) (λ j h. front j (omega arith)) last in
+    same_lists a b q (λ j d h. get_or_default a j d 0 h ∙ all j (omega arith) ∙ get_or_default b j 0 d (omega arith))
 
 module _ (m : Meaning) (e : Extent) (p : ℕ) where
   -- a piece inside one sector that was read
