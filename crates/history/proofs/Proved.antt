@@ -1,9 +1,7 @@
 -- The laws of histories, and of lookups along them.
-use Rattle.std.proofs.Common.{◌≡◌, ℕ, ◌≤◌, Bool, true, false, cond, ◌⊎◌, List, Some, None, Err, sym, refl, ap, ◌∙◌, subst, inl, inr, arith, rules}
+use Rattle.std.proofs.Common.{◌≡◌, ℕ, ◌⊎◌, List, Err, sym, refl, ap, ◌∙◌, subst, arith}
 use Rattle.byte_lists.specs.Bytes.{part}
-use Rattle.faults.specs.declared.device.DeviceFault.{DeviceFault}
-use Rattle.faults.specs.declared.device.DeviceFault.TheVariants.{Range, Power, Bad}
-use Rattle.device.specs.Meanings.{Meaning, is_bad, refuses, refusal}
+use Rattle.device.specs.Meanings.{Meaning}
 use Rattle.cdb.specs.Rules.{Lawful}
 use Rattle.file.specs.declared.extents.Extent.{Extent}
 use Rattle.file.specs.Extents.{file}
@@ -14,9 +12,10 @@ use Rattle.lookup_runs.proofs.Giving.{start_done, law_of_lookups, run_wrote}
 use Rattle.areas.specs.Geometry.{area_start}
 use Rattle.shelf.specs.declared.fault.ShelfFault.{ShelfFault}
 use Rattle.shelf.specs.declared.fault.ShelfFault.TheVariants.{File, Size, NoRoot, Entries, Full, Small}
-use Rattle.shelf.specs.Reports.{shelf_report, at_root}
+use Rattle.shelf.specs.Reports.{shelf_report}
 use Rattle.shelf.specs.States.{Live, LiveExtent}
 use Rattle.shelf.specs.Opens.{Opens}
+use Rattle.shelf.proofs.Ruled.{root_refused}
 use Rattle.history.specs.declared.calls.State.{State}
 use Rattle.history.specs.declared.calls.Answer.{Answer}
 use Rattle.history.specs.Events.{Request, Event, event, Quiet}
@@ -55,27 +54,12 @@ only_publications_change_live m n k h s t c a l hist v q r =
     (rooted_same l n k st r, st.file)
 
 -- a read of the root is refused by power or by its sector
-no_range : (p b : Bool) → cond p (cond b (Some (Bad 0)) None) (Some Power) ≡ Some Range → ⊥
-no_range true true e = cc
-no_range true false e = cc
-no_range false b e = cc
-
-root_in_range : (m : Meaning) → 1 ≤ m.sectors → refusal m 0 512 ≡ Some Range → ⊥
-root_in_range m few e =
-    let i : refusal m 0 512 ≡ refuses m 0 = search rules in
-    no_range m.power (is_bad m 0) (sym i ∙ e)
-
-by_fault : (m : Meaning) (f : DeviceFault) → 1 ≤ m.sectors → refusal m 0 512 ≡ Some f → ((shelf_report (File (at_root f))).number ≡ 21) ⊎ ((shelf_report (File (at_root f))).number ≡ 22)
-by_fault m Range few e = absurd (root_in_range m few e)
-by_fault m Power few e = inl refl
-by_fault m (Bad b) few e = inr refl
-
 by_refusal : (m : Meaning) (l : Live) (x : ShelfFault) → Rooted m l → Opens m (Err x) → ((shelf_report x).number ≡ 21) ⊎ ((shelf_report x).number ≡ 22)
 by_refusal m l NoRoot r o = absurd (o.1 l.area l.len r.names)
 by_refusal m l (File x) r (f, e, told) =
     let long = r.names.long in
     let fits = r.names.fits in
-    subst (λ q. ((shelf_report (File q)).number ≡ 21) ⊎ ((shelf_report (File q)).number ≡ 22)) (sym told) (by_fault m f (omega arith) e)
+    subst (λ q. ((shelf_report (File q)).number ≡ 21) ⊎ ((shelf_report (File q)).number ≡ 22)) (sym told) (root_refused m f (omega arith) e)
 by_refusal m l Size r o = absurd o
 by_refusal m l Entries r o = absurd o
 by_refusal m l Full r o = absurd o
