@@ -12,7 +12,8 @@ use Rattle.file.specs.Extents.{On, file}
 use Rattle.file.proofs.Turns.{holds_list, holds_all}
 use Rattle.lookup.specs.Fetches.{Inside, Takes, outside, filled, stopped}
 use Rattle.lookup.proofs.One.{takes_alone}
-use Rattle.lookup.proofs.Placed.{placed_err, placed_ok}
+use Rattle.faults.proofs.Places.{placed_ok}
+use Rattle.lookup.proofs.Placed.{placed_fault}
 use Rattle.lookup.proofs.taking.take_part.Goals as goal
 use Rattle.lookup.proofs.taking.take_part.Goals.{then-past-end-via-then-past-end, then-past-end-via-else-past-end+then-past-extent}
 
@@ -55,7 +56,7 @@ returns-in_err-add_place g c =
     let on : On m e = search rules in
     let i : Inside m e from c.args.end (length c.args.buffer.now) = record { on_device = on; in_file = omega arith; in_data = omega arith } in
     let r = err_from_is_err_and c.from_residual.result c.from_residual.ensures.1 in
-    let b = placed_err (λ x. Fetched m (e.start + from) c.args.buffer.now x c.read_part.new.buffer) 256 from c.read_part.ensures.filled c.add_place.ensures c.in_err-add_place.was in
+    let b = placed_fault (λ x. Fetched m (e.start + from) c.args.buffer.now x c.read_part.new.buffer) 256 from c.add_place.ensures c.in_err-add_place.was c.read_part.ensures.filled in
     let a : Takes m e from c.args.end c.args.buffer.now c.from_residual.result c.read_part.new.buffer =
     rw (r.1, r.2, b.2) (halted m e from c.args.end c.args.buffer.now c.read_part.new.buffer (g.met.D.Device.whole c.args.d.now) i b.0 b.1) in
     takes_alone m e from c.args.end c.args.buffer.now _ _ a c.read_part.ensures.same
@@ -67,5 +68,5 @@ returns g c =
     let from : ℕ = c.args.from in
     let on : On m e = search rules in
     let i : Inside m e from c.args.end (length c.args.buffer.now) = record { on_device = on; in_file = omega arith; in_data = omega arith } in
-    let h = placed_ok (λ x. Fetched m (e.start + from) c.args.buffer.now x c.read_part.new.buffer) 256 from c.read_part.ensures.filled c.add_place.ensures c.in_ok-add_place.was in
+    let h = placed_ok (λ x. Fetched m (e.start + from) c.args.buffer.now x c.read_part.new.buffer) 256 from c.add_place.ensures c.in_ok-add_place.was c.read_part.ensures.filled in
     takes_alone m e from c.args.end c.args.buffer.now _ _ (took m e from c.args.end c.args.buffer.now c.read_part.new.buffer (g.met.D.Device.whole c.args.d.now) i h) c.read_part.ensures.same

@@ -2,6 +2,7 @@ use Rattle.std.proofs.Common.{◌≡◌, ℕ, ◌+◌, Bool, List, length, Ok, E
 use Rattle.std.proofs.lemmas.Result.{err_from_is_err_and}
 use Rattle.faults.specs.declared.device.DeviceFault.{DeviceFault}
 use Rattle.faults.specs.declared.file.FileFault.{FileFault}
+use Rattle.faults.proofs.Places.{placed_ok}
 use Rattle.device.specs.Meanings.{Meaning}
 use Rattle.file.specs.declared.extents.Extent.{Extent}
 use Rattle.file.specs.Extents.{file}
@@ -13,7 +14,7 @@ use Rattle.lookup.specs.Searches.{Kept}
 use Rattle.lookup.specs.Probes as probes
 use Rattle.lookup.specs.Probes.{Illegible, RecordProbe, table_in}
 use Rattle.lookup.proofs.Kept.{moved}
-use Rattle.lookup.proofs.Placed.{found_is, placed_err, placed_ok}
+use Rattle.lookup.proofs.Placed.{found_is, placed_fault}
 use Rattle.lookup.proofs.searching.Search.probe_record.Goals as goal
 
 illegible : (m : Meaning) (e : Extent) (t : ℕ) (key : List ℕ) (p : ℕ) (f : FileFault) → Illegible m e t p f → RecordProbe m e t key p (Err f)
@@ -44,8 +45,8 @@ returns-in_err-same-clause-probe g c =
     let w = c.in_ok-words.ensures.probe in
     let long : length c.words.new.self.key.now ≡ length c.args.self.now.key.now = ap (λ k. length k.now) c.words.ensures.kept.key in
     let r = err_from_is_err_and c.from_residual-in_err-same.result c.from_residual-in_err-same.ensures.1 in
-    let b = placed_err (Compared _ c.args.self.now.cursor.extent (c.args.place + 8) c.args.self.now.key.now)
-    (table_in c.args.self.now.cursor) c.args.place (compared c.words.ensures.kept _ _ c.compare.ensures.compared) c.add_place.ensures c.in_err-same.was in
+    let b = placed_fault (Compared _ c.args.self.now.cursor.extent (c.args.place + 8) c.args.self.now.key.now)
+    (table_in c.args.self.now.cursor) c.args.place c.add_place.ensures c.in_err-same.was (compared c.words.ensures.kept _ _ c.compare.ensures.compared) in
     rw (r.1, r.2, b.2) (probes.key_bad w.0 (omega (arith, w.1, w.2)) (sym w.1 ∙ c.if-words-self.false ∙ long) b.1)
 
 pub returns-then-not-same-clause-probe : goal.returns-then-not-same-clause-probe
@@ -53,7 +54,7 @@ returns-then-not-same-clause-probe g c =
     let w = c.in_ok-words.ensures.probe in
     let long : length c.words.new.self.key.now ≡ length c.args.self.now.key.now = ap (λ k. length k.now) c.words.ensures.kept.key in
     let h = placed_ok (Compared _ c.args.self.now.cursor.extent (c.args.place + 8) c.args.self.now.key.now)
-    (table_in c.args.self.now.cursor) c.args.place (compared c.words.ensures.kept _ _ c.compare.ensures.compared) c.add_place.ensures c.in_ok-same.was in
+    (table_in c.args.self.now.cursor) c.args.place c.add_place.ensures c.in_ok-same.was (compared c.words.ensures.kept _ _ c.compare.ensures.compared) in
     probes.other_key w.0 (omega (arith, w.1, w.2)) (sym w.1 ∙ c.if-words-self.false ∙ long) (rw c.if-not-same.true at h)
 
 pub returns-clause-probe : goal.returns-clause-probe
@@ -63,6 +64,6 @@ returns-clause-probe g c =
     let w = c.in_ok-words.ensures.probe in
     let long : length c.words.new.self.key.now ≡ length c.args.self.now.key.now = ap (λ k. length k.now) c.words.ensures.kept.key in
     let h = placed_ok (Compared _ c.args.self.now.cursor.extent (c.args.place + 8) c.args.self.now.key.now)
-    (table_in c.args.self.now.cursor) c.args.place (compared c.words.ensures.kept _ _ c.compare.ensures.compared) c.add_place.ensures c.in_ok-same.was in
+    (table_in c.args.self.now.cursor) c.args.place c.add_place.ensures c.in_ok-same.was (compared c.words.ensures.kept _ _ c.compare.ensures.compared) in
     subst (λ (f : Found). RecordProbe m e (table_in c.args.self.now.cursor) c.args.self.now.key.now c.args.place (Ok (Match f))) (sym (found_is (file m e) c.args.place _ _ w.1 w.2))
     (probes.same_key w.0 (omega (arith, w.1, w.2)) (sym w.1 ∙ c.if-words-self.false ∙ long) (rw c.if-not-same.false at h))
