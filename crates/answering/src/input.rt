@@ -28,6 +28,7 @@ pub fn audit_input(input: &[u8]) -> Result<Counts, InputFault>
 }
 
 /// Audits the file of `len` bytes that some sectors begin with.
+// Memory and length, as the device is of whole sectors: a slice of the file alone would lose its last bytes.
 fn audit_laid(sectors: &[u8; LIMIT], len: u32) -> Result<Counts, InputFault>
     requires { len ≤ 61440 }
     ensures { Judged (take len sectors.now) (answer_verdict result) }

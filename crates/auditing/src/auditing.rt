@@ -61,6 +61,7 @@ fn judge<D: Device>(file: &mut ReadableFile<'_, D>) -> Result<Counts, FileFault>
 }
 
 /// Audits the file in an extent. Refuses 11, 21 or 22 if it cannot be read, then by the first rule that it breaks, 1 to 8.
+// Device and extent stay parameters, as in `lookup::calls`: most extents are read once.
 pub fn audit<D: Device>(d: &mut D, e: Extent) -> Result<Counts, FileFault>
     ensures verdict { Audited (D.Device.meaning d.old) e result }
     ensures only { OnlyAnswer (D.Device.meaning d.old) e result }

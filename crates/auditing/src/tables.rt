@@ -67,6 +67,7 @@ fn check_room<D: Device>(
 }
 
 /// The first slot of a table that is empty with another hash than 0.
+// A range, since each turn reads the lent file and may refuse.
 fn stained_slot<D: Device>(file: &mut ReadableFile<'_, D>, pos: u32, len: u32) -> Option<u32>
     requires { pos + 8 * len ≤ length (contents file.old) }
     ensures answer { MatchOption result ((i : ℕ) → i < len → ClearAt (contents file.old) pos i) (λ i. First len (ClearAt (contents file.old) pos) i) }
@@ -82,6 +83,7 @@ fn stained_slot<D: Device>(file: &mut ReadableFile<'_, D>, pos: u32, len: u32) -
 }
 
 /// Refuses the first such slot of the file, by table and place.
+// A range, since each turn reads the lent file and may refuse.
 fn check_clear<D: Device>(file: &mut ReadableFile<'_, D>) -> Result<(), FileFault>
     requires { TablesInside (contents file.old) }
     ensures answer { MatchResult result (λ _. Each (TableClear (contents file.old))) (λ x. RefusesSlot (contents file.old) x) }

@@ -14,6 +14,7 @@ pub fn know_bytes(bytes: &[u8])
 }
 
 /// The word at a place of some bytes.
+// No conversion of a slice into an array: that would be unwrapped, which is no plainer.
 pub fn word_at(bytes: &[u8], place: usize) -> u32
     requires { place + 4 ≤ length bytes.now }
     ensures { result ≡ word_at bytes.now place }

@@ -12,6 +12,7 @@ use faults::device::DeviceFault;
 use faults::file::{FileFault, add_place};
 
 /// Refuses an extent whose file cannot be read.
+// Device and extent stay parameters: only then is there a `ReadableFile` of the two.
 pub fn check_readable<D: Device>(d: &mut D, extent: Extent) -> Result<(), FileFault>
     ensures answer { MatchResult result (λ _. Ready (D.Device.meaning d.old) extent) (λ f. Unreadable (D.Device.meaning d.old) extent f) }
     ensures same { D.Device.meaning d.new ≡ D.Device.meaning d.old }

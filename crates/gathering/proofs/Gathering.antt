@@ -1,5 +1,6 @@
 -- In a lawful file the data of a key are gathered whole and in order.
 use Rattle.std.proofs.Common.{◌≡◌, ℕ, ◌+◌, ◌-◌, ◌<◌, ◌≤◌, true, false, List, [], ◌∷◌, ◌++◌, map, filter, length, Some, None, Ok, Err, Option, Result, sym, refl, ap, ◌∙◌, subst, ⊎_elim, arith}
+use Rattle.std.proofs.lemmas.List.{append-nil, append_assoc}
 use Rattle.std.proofs.lemmas.Bool.{cond-true, cond-false, cases_Bool}
 use Rattle.std.specs.Global.{Vec}
 use Rattle.std.specs.Str.{bytes_eq}
@@ -25,7 +26,7 @@ use Rattle.lookup_runs.proofs.Held.{Holding, short, not_bad}
 use Rattle.lookup_runs.proofs.Walking.{data_of_item, State}
 use Rattle.lookup_runs.proofs.Giving.{next_step, first, first_found, start_state, start_done}
 use Rattle.gathering.specs.declared.gather.GatherFault.{GatherFault}
-use Rattle.gathering.specs.declared.gather.GatherFault.TheVariants.{File, OutOfMemory}
+use Rattle.gathering.specs.declared.gather.GatherFault.TheVariants.{File, Memory}
 use Rattle.gathering.specs.Gathers.{data_with, FetchedWhole, FetchRefused, Sofar, started, another, Gathered, ended, start_refused, next_refused, fetch_refused, bytes_of, GatherRefused, Gathers, GathersRecords, FetchStopped}
 
 abbrev Answers : Type 0
@@ -56,14 +57,6 @@ some_err x f e = let z : ◌≡◌ {A = ℕ} 0 1 = cc in omega arith
 
 none_some : (x : Found) → ◌≡◌ {A = Answers} (Ok (Some x)) (Ok None) → ⊥
 none_some x e = let z : ◌≡◌ {A = ℕ} 0 1 = cc in omega arith
-
-none_left : (xs : List (List ℕ)) → xs ++ [] ≡ xs
-none_left [] = refl
-none_left (x ∷ xs) = ap (λ (ys : List (List ℕ)). x ∷ ys) (none_left xs)
-
-one_more : (xs : List (List ℕ)) (y : List ℕ) (zs : List (List ℕ)) → (xs ++ y ∷ []) ++ zs ≡ xs ++ y ∷ zs
-one_more [] y zs = refl
-one_more (x ∷ xs) y zs = ap (λ (ys : List (List ℕ)). x ∷ ys) (one_more xs y zs)
 
 module _ (m : Meaning) (e : Extent) (key : List ℕ) (rs : List Record) (rd : Readable m e) (lawful : Lawful (file m e) rs) where
   abbrev F : List ℕ
@@ -128,7 +121,7 @@ module _ (m : Meaning) (e : Extent) (key : List ℕ) (rs : List Record) (rd : Re
             data' = vs;
             state = k.1;
             hold = h.2;
-            all = ap (λ (w : List ℕ). (ds ++ w ∷ []) ++ vs) is ∙ one_more ds v vs ∙ all;
+            all = ap (λ (w : List ℕ). (ds ++ w ∷ []) ++ vs) is ∙ append_assoc ds (v ∷ []) vs ∙ all;
           }
 
   left : (c : Cursor) (ds : List (List ℕ)) → Sofar m e key c ds → Left c ds
@@ -140,7 +133,7 @@ module _ (m : Meaning) (e : Extent) (key : List ℕ) (rs : List Record) (rd : Re
   at_end c c' ds l n = by l.items l.data' l.state l.hold l.all
     where
       by : (ys : List Item) (vs : List (List ℕ)) → State F rs law e key c ys → Hold F (position F 0) (found ys) vs → ds ++ vs ≡ data_with key rs → ds ≡ data_with key rs
-      by [] [] s h all = sym (none_left ds) ∙ all
+      by [] [] s h all = sym (append-nil ds) ∙ all
       by [] (v ∷ vs) s h all = absurd h
       by (y ∷ ys) vs s h all = absurd (none_some (data_of_item F y) (sym (next_step F rs law e key m holds c (y ∷ ys) s (Ok None) c' n).0))
 
@@ -172,7 +165,7 @@ module _ (m : Meaning) (e : Extent) (key : List ℕ) (rs : List Record) (rd : Re
 pub gathers_records : (m : Meaning) (e : Extent) (key : List ℕ) (r : Result (Vec (Vec ℕ)) GatherFault) → Gathers m e key r → GathersRecords m e key r
 gathers_records m e key (Ok all) g = λ rs rd law. gives m e key rs rd law (bytes_of all.items) g
 gathers_records m e key (Err (File f)) g = λ rs rd law. refuses m e key rs rd law f g
-gathers_records m e key (Err OutOfMemory) g = tt
+gathers_records m e key (Err (Memory a)) g = tt
 
 -- a next that finds data has probed one slot more at least, and not more than there are
 pub next_smaller : (m : Meaning) (c c' : Cursor) (key : List ℕ) (x : Found) → Next m c key (Ok (Some x)) c' → c'.slots - c'.probed < c.slots - c.probed
@@ -182,7 +175,7 @@ next_smaller m c c' key x (nexts.walked a b (nexts.found l p q)) = omega (arith,
 pub fetch_stops : (m : Meaning) (e : Extent) (key : List ℕ) (c c' : Cursor) (x : Found) (ds : List (List ℕ)) (f : GatherFault)
     → Sofar m e key c ds → Next m c key (Ok (Some x)) c' → FetchStopped m e x f → GatherRefused m e key f
 fetch_stops m e key c c' x ds (File f) s n r = fetch_refused s n r
-fetch_stops m e key c c' x ds OutOfMemory s n r = tt
+fetch_stops m e key c c' x ds (Memory a) s n r = tt
 
 -- the bytes of one more
 pub bytes_more : (vs : List (Vec ℕ)) (v : Vec ℕ) → bytes_of (vs ++ v ∷ []) ≡ bytes_of vs ++ v.items ∷ []

@@ -14,7 +14,7 @@ use Rattle.lookup.specs.Nexts.{Next}
 use Rattle.lookup.specs.Starts.{Start}
 use Rattle.lookup.specs.Fetches.{Fetch}
 use Rattle.gathering.specs.declared.gather.GatherFault.{GatherFault}
-use Rattle.gathering.specs.declared.gather.GatherFault.TheVariants.{File, OutOfMemory}
+use Rattle.gathering.specs.declared.gather.GatherFault.TheVariants.{File, Memory}
 
 -- the data of the records with a key, in their order
 abbrev pub data_with : List ℕ → List Record → List (List ℕ)
@@ -46,10 +46,15 @@ pub data Gathered (m : Meaning) (e : Extent) (key : List ℕ) : Result (List (Li
 abbrev pub bytes_of : List (Vec ℕ) → List (List ℕ)
 bytes_of vs = map (λ v. v.items) vs
 
+-- there was not memory enough
+abbrev pub IsMemory : GatherFault → Type 0
+IsMemory (File f) = ⊥
+IsMemory (Memory a) = Unit {0}
+
 -- what a lookup that gave no data was refused with, unless memory ran out
 abbrev pub GatherRefused : Meaning → Extent → List ℕ → GatherFault → Type 0
 GatherRefused m e key (File f) = Gathered m e key (Err f)
-GatherRefused m e key OutOfMemory = Unit {0}
+GatherRefused m e key (Memory a) = Unit {0}
 
 -- so where there is memory enough for them
 abbrev pub Gathers : Meaning → Extent → List ℕ → Result (Vec (Vec ℕ)) GatherFault → Type 0
@@ -60,12 +65,12 @@ Gathers m e key (Err g) = GatherRefused m e key g
 abbrev pub GathersRecords : Meaning → Extent → List ℕ → Result (Vec (Vec ℕ)) GatherFault → Type 0
 GathersRecords m e key (Ok all) = (rs : List Record) → Readable m e → Lawful (file m e) rs → bytes_of all.items ≡ data_with key rs
 GathersRecords m e key (Err (File f)) = (rs : List Record) → Readable m e → Lawful (file m e) rs → ⊥
-GathersRecords m e key (Err OutOfMemory) = Unit {0}
+GathersRecords m e key (Err (Memory a)) = Unit {0}
 
 -- why the whole of some data found was not fetched, unless memory ran out
 abbrev pub FetchStopped : Meaning → Extent → Found → GatherFault → Type 0
 FetchStopped m e x (File f) = FetchRefused m e x f
-FetchStopped m e x OutOfMemory = Unit {0}
+FetchStopped m e x (Memory a) = Unit {0}
 
 -- the whole of some data found, or why there is none
 abbrev pub FetchesAll : Meaning → Extent → Found → Result (Vec ℕ) GatherFault → Type 0

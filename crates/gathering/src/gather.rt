@@ -2,8 +2,8 @@
 
 ghost use Rattle.std.specs.Prelude.{◌≡◌, Ok};
 ghost use Rattle.lookup.specs.Starts.{Start};
-ghost use Rattle.gathering.specs.declared.gather.GatherFault.TheVariants.{File, OutOfMemory};
-ghost use Rattle.gathering.specs.Gathers.{FetchesAll, Gathers, GathersRecords};
+ghost use Rattle.gathering.specs.declared.gather.GatherFault.TheVariants.{File, Memory};
+ghost use Rattle.gathering.specs.Gathers.{FetchesAll, Gathers, GathersRecords, IsMemory};
 
 use device::device::Device;
 use faults::file::FileFault;
@@ -13,12 +13,12 @@ use lookup::cursors::{Cursor, Found};
 use std::alloc::{AllocError, AllocFailed, Global};
 
 /// Why a lookup gave no data.
-#[derive(Clone, Copy)]
+#[derive(Clone, Copy, PartialEq, Eq, Debug)]
 pub enum GatherFault {
     /// A call of the lookup was refused.
     File(FileFault),
     /// There is not memory enough for the data.
-    OutOfMemory,
+    Memory(AllocError),
 }
 
 impl From<FileFault> for GatherFault {
@@ -30,18 +30,18 @@ impl From<FileFault> for GatherFault {
 }
 
 impl From<AllocError> for GatherFault {
-    ghost from_gives = { λ _ g. g ≡ OutOfMemory };
+    ghost from_gives = { λ e g. g ≡ Memory e };
 
-    fn from(_error: AllocError) -> GatherFault {
-        GatherFault::OutOfMemory
+    fn from(error: AllocError) -> GatherFault {
+        GatherFault::Memory(error)
     }
 }
 
 impl<T: Drop> From<AllocFailed<T>> for GatherFault {
-    ghost from_gives = { λ _ g. g ≡ OutOfMemory };
+    ghost from_gives = { λ _ g. IsMemory g };
 
-    fn from(_error: AllocFailed<T>) -> GatherFault {
-        GatherFault::OutOfMemory
+    fn from(error: AllocFailed<T>) -> GatherFault {
+        GatherFault::Memory(AllocError::from(error))
     }
 }
 
@@ -61,6 +61,7 @@ fn fetch_all<D: Device>(
 }
 
 /// The data that the nexts from a cursor on find, up to the end.
+// By the public calls, of which the law of lookups speaks; so the key is hashed again at each next.
 fn gather_from<D: Device>(
     alloc: Global,
     d: &mut D,

@@ -1,5 +1,5 @@
 -- What a call of a lookup under way leaves.
-use Rattle.std.proofs.Common.{ℕ, List, ◌∙◌, subst}
+use Rattle.std.proofs.Common.{◌≡◌, ℕ, List, length, ap, ◌∙◌, subst}
 use Rattle.device.specs.Meanings.{Meaning}
 use Rattle.lookup.specs.declared.cursors.Cursor.{Cursor}
 use Rattle.lookup.specs.declared.searching.Search.{Search}
@@ -17,3 +17,7 @@ module _ {D B : _} {s t : Search D B} (kept : Kept s t) where
   pub kept_twice : {u : Search D B} → Kept t u → Kept s u
   kept_twice more =
       record { same = more.same ∙ kept.same; lent = more.lent ∙ kept.lent; cursor = more.cursor ∙ kept.cursor; key = more.key ∙ kept.key }
+
+  -- the key stays as long as it was
+  pub key_long : length t.key.now ≡ length s.key.now
+  key_long = ap (λ k. length k.now) kept.key

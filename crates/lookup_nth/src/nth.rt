@@ -36,6 +36,7 @@ fn nth_from<D: Device>(
 
 /// The place and the length of the data of record `n` of a key, counted from 0 in file order, or none where the key has no
 /// such record: refuses what start and next refuse.
+// Device and extent stay parameters, as in `lookup::calls`.
 pub fn nth<D: Device>(
     d: &mut D,
     extent: Extent,

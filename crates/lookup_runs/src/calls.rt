@@ -26,6 +26,7 @@ pub enum Call<'a> {
 }
 
 /// What a call answered.
+// Three names say more than an `Option` of two.
 #[derive(Clone, Copy)]
 pub enum Answer {
     Next(Result<Option<Found>, FileFault>),

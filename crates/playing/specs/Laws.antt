@@ -2,6 +2,7 @@
 use Rattle.std.specs.Prelude.{◌≡◌, ℕ, List, take, Some, None, Ok, Err, Option, Result}
 use Rattle.std.specs.Global.{Vec}
 use Rattle.faults.specs.declared.file.FileFault.{FileFault}
+use Rattle.std.specs.declared.alloc.AllocError.{AllocError}
 use Rattle.device.specs.Meanings.{Meaning}
 use Rattle.cdb.specs.Records.{Record}
 use Rattle.file.specs.declared.extents.Extent.{Extent}
@@ -13,7 +14,6 @@ use Rattle.history.specs.Events.{Event, Published}
 use Rattle.history.specs.Histories.{History}
 use Rattle.playing.specs.declared.steps.Step.{Step}
 use Rattle.playing.specs.declared.steps.Outcome.{Outcome}
-use Rattle.playing.specs.declared.making.OutOfMemory.{OutOfMemory}
 use Rattle.playing.specs.declared.running.Ran.{Ran as Ran'}
 use Rattle.playing.specs.Steps.{Shows, Looked}
 use Rattle.playing.specs.Runs.{Ran}
@@ -38,7 +38,7 @@ abbrev pub RanSome : {T : Type 0} → Meaning → Meaning → List Entry → Lis
 RanSome m o es ks p fs = (k : ℕ) × (rs : List Outcome) × (n : Meaning) × (s : State) × RanTo m o es (take k ks) rs n p s fs
 
 -- what a run answers: all steps were made, and the log has what each answered; or memory ran out
-abbrev pub Runs : {D T : Type 0} → (D → Meaning) → Meaning → Meaning → List Entry → List (Step T) → Result (Ran' D) OutOfMemory → Meaning → List Entry → Type 0
+abbrev pub Runs : {D T : Type 0} → (D → Meaning) → Meaning → Meaning → List Entry → List (Step T) → Result (Ran' D) AllocError → Meaning → List Entry → Type 0
 Runs meaning m o es ks (Ok r) p fs = RanTo m o es ks r.log.items (meaning r.device) p r.state fs
 Runs meaning m o es ks (Err x) p fs = RanSome m o es ks p fs
 

@@ -1,9 +1,9 @@
 -- Inner: what one step leaves and answers, by the values that the code hands on.
 use Rattle.std.specs.Prelude.{◌≡◌, List, Ok, Err, Result}
+use Rattle.std.specs.declared.alloc.AllocError.{AllocError}
 use Rattle.device.specs.Meanings.{Meaning}
 use Rattle.building.specs.declared.entries.Entry.{Entry}
 use Rattle.playing.specs.declared.steps.Step.{Step}
-use Rattle.playing.specs.declared.making.OutOfMemory.{OutOfMemory}
 use Rattle.playing.specs.declared.making.Stage.{Stage}
 use Rattle.playing.specs.declared.making.Made.{Made}
 use Rattle.playing.specs.Steps.{Happens}
@@ -21,10 +21,10 @@ abbrev pub MadeHere : {D T : Type 0} → (D → Meaning) → Stage D → List En
 MadeHere meaning s es k r fs = (o : Meaning) → Makes meaning s o es k r o fs
 
 -- so, unless memory ran out; then the other device and the entries are as before
-abbrev pub MadeOr : {D T : Type 0} → (D → Meaning) → Stage D → Step T → Result (Made D) OutOfMemory → Type 0
+abbrev pub MadeOr : {D T : Type 0} → (D → Meaning) → Stage D → Step T → Result (Made D) AllocError → Type 0
 MadeOr meaning s k (Ok r) = MadeBy meaning s k r
 MadeOr meaning s k (Err x) = Unit {0}
 
-abbrev pub MakesOr : {D T : Type 0} → (D → Meaning) → Stage D → Meaning → List Entry → Step T → Result (Made D) OutOfMemory → Meaning → List Entry → Type 0
+abbrev pub MakesOr : {D T : Type 0} → (D → Meaning) → Stage D → Meaning → List Entry → Step T → Result (Made D) AllocError → Meaning → List Entry → Type 0
 MakesOr meaning s o es k (Ok r) p fs = Makes meaning s o es k r p fs
 MakesOr meaning s o es k (Err x) p fs = (p ≡ o) × (fs ≡ es)

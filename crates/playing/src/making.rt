@@ -14,27 +14,7 @@ use file::extents::Extent;
 use gathering::gather::{GatherFault, gather};
 use history::calls::{Answer, Call, State};
 use shelf::formatting::format;
-use std::alloc::{AllocError, AllocFailed, Global};
-
-/// There was not memory enough for a run's log.
-#[derive(Clone, Copy, Debug)]
-pub struct OutOfMemory;
-
-impl From<AllocError> for OutOfMemory {
-    ghost from_gives = { λ _ _. Unit {0} };
-
-    fn from(_error: AllocError) -> OutOfMemory {
-        OutOfMemory
-    }
-}
-
-impl<T: Drop> From<AllocFailed<T>> for OutOfMemory {
-    ghost from_gives = { λ _ _. Unit {0} };
-
-    fn from(_error: AllocFailed<T>) -> OutOfMemory {
-        OutOfMemory
-    }
-}
+use std::alloc::{AllocError, Global};
 
 /// A device, and the state of its shelf.
 #[derive(Drop)]
@@ -136,7 +116,7 @@ fn make_get<D: Bench + Drop>(
     alloc: Global,
     stage: Stage<D>,
     key: &[u8],
-) -> Result<Made<D>, OutOfMemory>
+) -> Result<Made<D>, AllocError>
     ensures made { MadeOr {T = D.Turn} D.Device.meaning stage (step.Get key.entry) result }
 {
     let Some(extent) = live_extent(&stage.state) else {
@@ -149,7 +129,7 @@ fn make_get<D: Bench + Drop>(
     match gather(alloc, &mut device, extent, key) {
         Ok(all) => Ok(Made::new(device, state, Outcome::Got(Ok(all)))),
         Err(GatherFault::File(fault)) => Ok(Made::new(device, state, Outcome::Got(Err(fault)))),
-        Err(GatherFault::OutOfMemory) => Err(OutOfMemory),
+        Err(GatherFault::Memory(error)) => Err(error),
     }
 }
 
@@ -188,7 +168,7 @@ pub(crate) fn make<D: Bench + Drop, E: WritableDevice>(
     other: &mut E,
     entries: &mut [Entry],
     step: &Step<'_, D::Turn>,
-) -> Result<Made<D>, OutOfMemory>
+) -> Result<Made<D>, AllocError>
     ensures made { MakesOr D.Device.meaning stage (E.Device.meaning other.old) entries.old step.now result (E.Device.meaning other.new) entries.new }
 {
     match step {

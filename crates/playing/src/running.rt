@@ -7,13 +7,13 @@ ghost use Rattle.playing.specs.Laws.{GetsGivePublished, Runs};
 
 use crate::bench::Bench;
 use crate::laws::know_gets;
-use crate::making::{Made, OutOfMemory, Stage, make};
+use crate::making::{Stage, make};
 use crate::steps::{Outcome, Step};
 use building::entries::Entry;
 use device::device::WritableDevice;
 use history::calls::State;
 use history::laws::know_laws;
-use std::alloc::Global;
+use std::alloc::{AllocError, Global};
 
 /// The device and the state after the steps of a run, and what each answered.
 #[derive(Drop)]
@@ -30,7 +30,7 @@ pub fn run<D: Bench + Drop, E: WritableDevice>(
     other: &mut E,
     entries: &mut [Entry],
     steps: &[Step<'_, D::Turn>],
-) -> Result<Ran<D>, OutOfMemory>
+) -> Result<Ran<D>, AllocError>
     ensures runs { Runs D.Device.meaning (D.Device.meaning device) (E.Device.meaning other.old) entries.old steps.now result (E.Device.meaning other.new) entries.new }
     ensures keep { HistoriesKeepPublished }
     ensures stay { OnlyPublicationsChangeLive }

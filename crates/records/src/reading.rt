@@ -55,6 +55,7 @@ impl<'a> RecordReader<'a> {
     }
 
     /// How many of the next records there are, at most so many.
+    // A range, since each turn carries the place and may refuse.
     fn ahead(&self, most: usize) -> Result<usize, FileFault>
         ensures { Meets self.now.file.now self.now.place most result }
     {

@@ -15,13 +15,5 @@ module _ (f : List ℕ) (len t due : ℕ) (r : Words) (long : length f ≡ len) 
     last = λ z. omega (arith, pair, s.last z);
   }
 
-  pub entry_read : Rule2 f t → Stands t due r.first r.second len
-  entry_read s = record {
-    first = λ z. let h = s.first z in (omega (arith, pair.0), omega (arith, pair.0));
-    abuts = λ z. pair.0 ∙ s.abuts z ∙ sym (before z);
-    within = omega (arith, pair, s.within);
-    last = λ z. omega (arith, pair, s.last z);
-  }
-
   pub next_due : r.first + 8 * r.second ≡ ends f t
   next_due = omega (arith, pair)

@@ -11,7 +11,8 @@ use file::words::Words;
 
 /// Where the records end, at the first table; refuses the first table whose header entry breaks rule 2.
 // That the tables lie inside the file stands in the clauses of all that reads tables. A type for it would have to hold the file, which
-// is lent already, and to be lent again to each of these functions, which is no plainer.
+// is lent already, and to be lent again to each of these functions, which is no plainer. The loop is over a range, since each turn reads the lent
+// file and carries where the next table is due.
 pub fn check_header<D: Device>(file: &mut ReadableFile<'_, D>) -> Result<u32, FileFault>
     requires { 2048 ≤ length (contents file.old) }
     ensures answer { MatchResult result (λ end. Header (contents file.old) end) (λ x. BreaksEntry (contents file.old) x) }

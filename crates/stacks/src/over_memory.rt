@@ -56,10 +56,9 @@ impl<'a> OverMemory<'a> for WriteMemory<'a> {
         WriteMemory::new(bytes, left, tear)
     }
 
-    fn with_writes(self, left: Budget, tear: RootTear) -> WriteMemory<'a> {
-        let mut memory = self;
-        memory.set_writes(left, tear);
-        memory
+    fn with_writes(mut self, left: Budget, tear: RootTear) -> WriteMemory<'a> {
+        self.set_writes(left, tear);
+        self
     }
 
     fn restart(self, left: Budget, tear: RootTear) -> WriteMemory<'a> {

@@ -33,6 +33,7 @@ pub fn read_records<'a>(text: &'a [u8], into: &mut [LentRecord<'a>]) -> Result<u
         return Err(TextFault::Short(room));
     }
     let mut records = TextReader::new(text);
+    // As `records` does with its reader: a trait for two readers would need laws that are longer than this loop.
     // The text was read to its end before, so none of these calls is refused or comes to the end.
     for slot in into[..n].iter_mut() {
         *slot = records.next().unwrap().unwrap();

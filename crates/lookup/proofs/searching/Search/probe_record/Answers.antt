@@ -1,4 +1,4 @@
-use Rattle.std.proofs.Common.{◌≡◌, ℕ, ◌+◌, Bool, List, length, Ok, Err, Result, sym, ap, ◌∙◌, subst, arith}
+use Rattle.std.proofs.Common.{ℕ, ◌+◌, Bool, List, Ok, Err, Result, sym, ◌∙◌, subst, arith}
 use Rattle.std.proofs.lemmas.Result.{err_from_is_err_and}
 use Rattle.faults.specs.declared.device.DeviceFault.{DeviceFault}
 use Rattle.faults.specs.declared.file.FileFault.{FileFault}
@@ -13,7 +13,7 @@ use Rattle.lookup.specs.Keys.{Compared}
 use Rattle.lookup.specs.Searches.{Kept}
 use Rattle.lookup.specs.Probes as probes
 use Rattle.lookup.specs.Probes.{Illegible, RecordProbe, table_in}
-use Rattle.lookup.proofs.Kept.{moved}
+use Rattle.lookup.proofs.Kept.{moved, key_long}
 use Rattle.lookup.proofs.Placed.{found_is, placed_fault}
 use Rattle.lookup.proofs.searching.Search.probe_record.Goals as goal
 
@@ -37,13 +37,13 @@ returns-then-end-cursor-clause-probe g c = let w = c.in_ok-words.ensures.probe i
 pub returns-then-words-self-clause-probe : goal.returns-then-words-self-clause-probe
 returns-then-words-self-clause-probe g c =
     let w = c.in_ok-words.ensures.probe in
-    let long : length c.words.new.self.key.now ≡ length c.args.self.now.key.now = ap (λ k. length k.now) c.words.ensures.kept.key in
+    let long = key_long c.words.ensures.kept in
     probes.other_length w.0 (omega (arith, w.1, w.2)) (λ h. c.if-words-self.true (w.1 ∙ h ∙ sym long))
 
 pub returns-in_err-same-clause-probe : goal.returns-in_err-same-clause-probe
 returns-in_err-same-clause-probe g c =
     let w = c.in_ok-words.ensures.probe in
-    let long : length c.words.new.self.key.now ≡ length c.args.self.now.key.now = ap (λ k. length k.now) c.words.ensures.kept.key in
+    let long = key_long c.words.ensures.kept in
     let r = err_from_is_err_and c.from_residual-in_err-same.result c.from_residual-in_err-same.ensures.1 in
     let b = placed_fault (Compared _ c.args.self.now.cursor.extent (c.args.place + 8) c.args.self.now.key.now)
     (table_in c.args.self.now.cursor) c.args.place c.add_place.ensures c.in_err-same.was (compared c.words.ensures.kept _ _ c.compare.ensures.compared) in
@@ -52,7 +52,7 @@ returns-in_err-same-clause-probe g c =
 pub returns-then-not-same-clause-probe : goal.returns-then-not-same-clause-probe
 returns-then-not-same-clause-probe g c =
     let w = c.in_ok-words.ensures.probe in
-    let long : length c.words.new.self.key.now ≡ length c.args.self.now.key.now = ap (λ k. length k.now) c.words.ensures.kept.key in
+    let long = key_long c.words.ensures.kept in
     let h = placed_ok (Compared _ c.args.self.now.cursor.extent (c.args.place + 8) c.args.self.now.key.now)
     (table_in c.args.self.now.cursor) c.args.place c.add_place.ensures c.in_ok-same.was (compared c.words.ensures.kept _ _ c.compare.ensures.compared) in
     probes.other_key w.0 (omega (arith, w.1, w.2)) (sym w.1 ∙ c.if-words-self.false ∙ long) (rw c.if-not-same.true at h)
@@ -62,7 +62,7 @@ returns-clause-probe g c =
     let m : Meaning = g.D.Device.meaning c.args.self.now.device.now in
     let e : Extent = c.args.self.now.cursor.extent in
     let w = c.in_ok-words.ensures.probe in
-    let long : length c.words.new.self.key.now ≡ length c.args.self.now.key.now = ap (λ k. length k.now) c.words.ensures.kept.key in
+    let long = key_long c.words.ensures.kept in
     let h = placed_ok (Compared _ c.args.self.now.cursor.extent (c.args.place + 8) c.args.self.now.key.now)
     (table_in c.args.self.now.cursor) c.args.place c.add_place.ensures c.in_ok-same.was (compared c.words.ensures.kept _ _ c.compare.ensures.compared) in
     subst (λ (f : Found). RecordProbe m e (table_in c.args.self.now.cursor) c.args.self.now.key.now c.args.place (Ok (Match f))) (sym (found_is (file m e) c.args.place _ _ w.1 w.2))
