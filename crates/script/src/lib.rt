@@ -1,0 +1,8 @@
+//! The script of calls of a shelf: its lines, its text, and the lines that answer them.
+#![tactic(auto)]
+
+pub mod command;
+pub mod reason;
+pub mod terms;
+pub mod verb;
+pub mod words;

@@ -1,0 +1,37 @@
+//! Why a script is malformed.
+
+use std::fmt;
+
+/// Why a line, or a script that ends with it, is malformed.
+#[derive(Clone, Copy, PartialEq, Eq, Debug)]
+pub enum Reason {
+    UnknownCommand,
+    TooFewWords,
+    TooManyWords,
+    /// A space stands in front of the first word, or two stand between words.
+    SpaceTooMany,
+    NotNumber,
+    NumberTooLarge,
+    /// Behind a cut's number stands neither `all` nor `nothing`.
+    NotTear,
+    DeviceMissing,
+    DeviceNotFirst,
+    DeviceRepeated,
+}
+
+impl fmt::Display for Reason {
+    fn fmt<W: fmt::Write>(&self, f: &mut fmt::Formatter<W>) -> fmt::Result {
+        f.write_str(match self {
+            Reason::UnknownCommand => "unknown command",
+            Reason::TooFewWords => "too few words",
+            Reason::TooManyWords => "too many words",
+            Reason::SpaceTooMany => "a space too many",
+            Reason::NotNumber => "not a number",
+            Reason::NumberTooLarge => "the number is too large",
+            Reason::NotTear => "neither all nor nothing",
+            Reason::DeviceMissing => "there is no device",
+            Reason::DeviceNotFirst => "the device does not come first",
+            Reason::DeviceRepeated => "a second device",
+        })
+    }
+}
