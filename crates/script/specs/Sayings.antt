@@ -122,8 +122,3 @@ Blank line = words line ≡ []
 abbrev pub Takes : Verb → List (List ℕ) → Result Statement Reason → Type 0
 Takes v ws (Ok s) = Behind v ws (said s)
 Takes v ws (Err r) = (o : Said) → Behind v ws o → ⊥
-
--- the same of a command
-abbrev pub TakesCommand : Verb → List (List ℕ) → Result Command Reason → Type 0
-TakesCommand v ws (Ok c) = Behind v ws (to_do (act c))
-TakesCommand v ws (Err r) = (o : Said) → Behind v ws o → ⊥

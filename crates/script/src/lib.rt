@@ -2,6 +2,7 @@
 #![tactic(auto)]
 
 pub mod command;
+pub mod phrase;
 pub mod reason;
 pub mod terms;
 pub mod verb;

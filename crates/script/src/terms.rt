@@ -11,7 +11,7 @@ use std::str;
 
 /// The one word that is wanted.
 pub(crate) fn one<'a>(words: &[&'a [u8]]) -> Result<&'a [u8], Reason>
-    ensures { MatchResult result (λ a. map (λ w. w.now) words.now ≡ a.now ∷ []) (λ _. length words.now ≢ 1) }
+    ensures { MatchResult result (λ a. map (λ w. w.now) words.now ≡ a.now ∷ []) (λ _. length (map (λ w. w.now) words.now) ≢ 1) }
 {
     match words {
         [a] => Ok(*a),
@@ -21,7 +21,7 @@ pub(crate) fn one<'a>(words: &[&'a [u8]]) -> Result<&'a [u8], Reason>
 
 /// The two words that are wanted.
 pub(crate) fn two<'a>(words: &[&'a [u8]]) -> Result<(&'a [u8], &'a [u8]), Reason>
-    ensures { MatchResult result (λ p. map (λ w. w.now) words.now ≡ p.0.now ∷ p.1.now ∷ []) (λ _. length words.now ≢ 2) }
+    ensures { MatchResult result (λ p. map (λ w. w.now) words.now ≡ p.0.now ∷ p.1.now ∷ []) (λ _. length (map (λ w. w.now) words.now) ≢ 2) }
 {
     match words {
         [a, b] => Ok((*a, *b)),
@@ -31,7 +31,7 @@ pub(crate) fn two<'a>(words: &[&'a [u8]]) -> Result<(&'a [u8], &'a [u8]), Reason
 
 /// The three words that are wanted.
 pub(crate) fn three<'a>(words: &[&'a [u8]]) -> Result<(&'a [u8], &'a [u8], &'a [u8]), Reason>
-    ensures { MatchResult result (λ p. map (λ w. w.now) words.now ≡ p.0.now ∷ p.1.now ∷ p.2.now ∷ []) (λ _. length words.now ≢ 3) }
+    ensures { MatchResult result (λ p. map (λ w. w.now) words.now ≡ p.0.now ∷ p.1.now ∷ p.2.now ∷ []) (λ _. length (map (λ w. w.now) words.now) ≢ 3) }
 {
     match words {
         [a, b, c] => Ok((*a, *b, *c)),
@@ -59,15 +59,25 @@ pub(crate) fn bytes_of<'a>(word: &'a [u8]) -> &'a [u8]
     }
 }
 
+/// Why a word is refused as a number.
+fn why_no_number(kind: IntErrorKind) -> Reason {
+    match kind {
+        IntErrorKind::PosOverflow => Reason::NumberTooLarge,
+        _ => Reason::NotNumber,
+    }
+}
+
 /// The number that a word writes.
 pub(crate) fn number(word: &[u8]) -> Result<u32, Reason>
     ensures { MatchResult result (λ n. Numeral word.now n) (λ _. (n : ℕ) → Numeral word.now n → ⊥) }
 {
-    let text = str::from_utf8(word).map_err(|_| Reason::NotNumber)?;
-    let number = text.parse::<u32>().map_err(|fault| match fault.kind() {
-        IntErrorKind::PosOverflow => Reason::NumberTooLarge,
-        _ => Reason::NotNumber,
-    })?;
+    let Ok(text) = str::from_utf8(word) else {
+        return Err(Reason::NotNumber);
+    };
+    let number = match text.parse::<u32>() {
+        Ok(number) => number,
+        Err(fault) => return Err(why_no_number(*fault.kind())),
+    };
     // A number is written as it is printed: without a sign, without a leading zero.
     let mut digits = Buffer::new();
     if digits.format(number).as_bytes() != word {
