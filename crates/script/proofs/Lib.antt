@@ -1,2 +1,4 @@
 pub mod Reading
 pub mod Numbers
+pub mod Sayings
+pub mod Counted

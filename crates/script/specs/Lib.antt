@@ -1,2 +1,3 @@
 pub mod Words
 pub mod Sayings
+pub mod Scripts

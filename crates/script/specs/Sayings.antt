@@ -1,5 +1,5 @@
 -- What a line can say, and how it is written.
-use Rattle.std.specs.Prelude.{◌≡◌, ℕ, ◌^◌, ◌<◌, ◌≤◌, ◌≢◌, ◌⊎◌, List, [], ◌∷◌, Ok, Err, Result, codes, decimal}
+use Rattle.std.specs.Prelude.{◌≡◌, ℕ, ◌^◌, ◌<◌, ◌≤◌, ◌≢◌, ◌⊎◌, List, [], ◌∷◌, Some, None, Ok, Err, Option, Result, codes, decimal}
 use Rattle.script.specs.declared.command.Tear.{Tear}
 use Rattle.script.specs.declared.command.Tear.TheVariants as tear
 use Rattle.script.specs.declared.command.Command.{Command}
@@ -122,3 +122,14 @@ Blank line = words line ≡ []
 abbrev pub Takes : Verb → List (List ℕ) → Result Statement Reason → Type 0
 Takes v ws (Ok s) = Behind v ws (said s)
 Takes v ws (Err r) = (o : Said) → Behind v ws o → ⊥
+
+-- the answer for a line: what it says, none if it says nothing; or a refusal, of a line of neither kind
+abbrev pub Answers : List ℕ → Result (Option Statement) Reason → Type 0
+Answers line (Ok (Some s)) = Says line (said s)
+Answers line (Ok None) = Blank line
+Answers line (Err r) = (Blank line → ⊥) × ((o : Said) → Says line o → ⊥)
+
+-- a line says one thing at most
+pub record OneSaying (line : List ℕ) : Type 0 where
+  pub same : (o p : Said) → Says line o → Says line p → o ≡ p
+  pub not_both : (o : Said) → Says line o → Blank line → ⊥

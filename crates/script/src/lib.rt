@@ -2,8 +2,10 @@
 #![tactic(auto)]
 
 pub mod command;
+pub mod line;
 pub mod phrase;
 pub mod reason;
 pub mod terms;
 pub mod verb;
+pub mod whole;
 pub mod words;

@@ -1,5 +1,10 @@
 //! Why a script is malformed.
 
+ghost use Rattle.std.specs.Prelude.{◌≡◌};
+ghost use Rattle.script.specs.declared.reason.ScriptError.TheVariants.{OutOfMemory};
+
+use std::alloc::AllocFailed;
+use std::error::Error;
 use std::fmt;
 
 /// Why a line, or a script that ends with it, is malformed.
@@ -33,5 +38,32 @@ impl fmt::Display for Reason {
             Reason::DeviceNotFirst => "the device does not come first",
             Reason::DeviceRepeated => "a second device",
         })
+    }
+}
+
+/// Why a text is not read as a script.
+#[derive(Clone, Copy, PartialEq, Eq, Debug)]
+pub enum ScriptError {
+    /// The number of the first line with which no script goes on, and why.
+    Malformed(usize, Reason),
+    OutOfMemory,
+}
+
+impl fmt::Display for ScriptError {
+    fn fmt<W: fmt::Write>(&self, f: &mut fmt::Formatter<W>) -> fmt::Result {
+        match self {
+            ScriptError::Malformed(line, reason) => write!(f, "line {line}: {reason}"),
+            ScriptError::OutOfMemory => f.write_str("out of memory"),
+        }
+    }
+}
+
+impl Error for ScriptError {}
+
+impl<T: Drop> From<AllocFailed<T>> for ScriptError {
+    ghost from_gives = { λ _ error. error ≡ OutOfMemory };
+
+    fn from(_failed: AllocFailed<T>) -> ScriptError {
+        ScriptError::OutOfMemory
     }
 }

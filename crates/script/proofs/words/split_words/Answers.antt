@@ -31,9 +31,10 @@ loop-piece-preserved c =
 
 pub returns : goal.returns
 returns c = elim c.match-next.branch [
-    in-None w ↦
-        let t = YieldsList-end (YieldsList-from_slice_split _ (λ b. b == 32) c.args.line.now (cc) (cc) (cc) (λ x b q k. search (rules, tests))) c.loop-piece.yielded _ c.loop-piece.yielded_by _ _ w.in-None.is c.next.ensures.steps in
-        (read_end _ _ _ _ c.loop-piece.invariant t.1, c.loop-piece.invariant.full)
+  | in-None w ↦
+      let t = YieldsList-end (YieldsList-from_slice_split _ (λ b. b == 32) c.args.line.now (cc) (cc) (cc) (λ x b q k. search (rules, tests))) c.loop-piece.yielded _ c.loop-piece.yielded_by _ _ w.in-None.is c.next.ensures.steps in
+      (read_end _ _ _ _ c.loop-piece.invariant t.1, c.loop-piece.invariant.full)
   | in-Some+then-starts_comment w ↦
-        let t = YieldsList-turn (YieldsList-from_slice_split _ (λ b. b == 32) c.args.line.now (cc) (cc) (cc) (λ x b q k. search (rules, tests))) c.loop-piece.yielded _ c.loop-piece.yielded_by _ _ w.in-Some.piece w.in-Some.is c.next.ensures.steps in
-        (read_comment _ _ _ _ w.in-Some.piece.now c.loop-piece.invariant t (search rules), c.loop-piece.invariant.full) ]
+      let t = YieldsList-turn (YieldsList-from_slice_split _ (λ b. b == 32) c.args.line.now (cc) (cc) (cc) (λ x b q k. search (rules, tests))) c.loop-piece.yielded _ c.loop-piece.yielded_by _ _ w.in-Some.piece w.in-Some.is c.next.ensures.steps in
+      (read_comment _ _ _ _ w.in-Some.piece.now c.loop-piece.invariant t (search rules), c.loop-piece.invariant.full)
+]
