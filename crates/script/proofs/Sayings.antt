@@ -1,5 +1,5 @@
 -- A line says one thing at most, and what it says is readable.
-use Rattle.std.proofs.Common.{◌≡◌, ◌≢◌, inl, inr, ℕ, ◌<◌, ◌≤◌, ◌^◌, Bool, true, false, Some, None, Option, if◌then◌else◌, List, [], ◌∷◌, length, decimal, refl, sym, ap, ◌∙◌, subst, arith, codes}
+use Rattle.std.proofs.Common.{◌≡◌, ◌≢◌, inl, inr, ℕ, ◌<◌, ◌≤◌, Some, Option, if◌then◌else◌, List, [], ◌∷◌, length, refl, sym, ap, ◌∙◌, subst, arith, codes}
 use Rattle.std.proofs.lemmas.Fmt.{decimal_injective, decimal_is_IsNumeral}
 use Rattle.std.specs.List.{AllByRecursion}
 use Rattle.std.specs.Str.{bytes_eq}
@@ -10,7 +10,7 @@ use Rattle.script.specs.declared.verb.Verb.TheVariants as verb
 use Rattle.script.specs.declared.reason.Reason.{Reason}
 use Rattle.script.specs.declared.reason.Reason.TheVariants as reason
 use Rattle.script.specs.Words.{words, HasByte, Unreadable}
-use Rattle.script.specs.Sayings.{Act, Alone, Behind, Blank, Numeral, OneSaying, Said, Says, SizeWords, Writes, name, quotes, tear_word, to_do, to_have, to_add, to_get, to_mark, to_cut, to_scribble, written}
+use Rattle.script.specs.Sayings.{Behind, Blank, Numeral, OneSaying, Said, Says, SizeWords, Writes, name, quotes, tear_word, to_do, to_have, to_add, to_get, to_mark, to_cut, to_scribble, written}
 
 -- the verb of a name
 named : List ℕ → Option Verb

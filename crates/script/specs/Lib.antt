@@ -1,3 +1,4 @@
 pub mod Words
 pub mod Sayings
 pub mod Scripts
+pub mod Telling

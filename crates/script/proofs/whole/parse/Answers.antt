@@ -1,4 +1,4 @@
-use Rattle.std.proofs.Common.{◌≡◌, ◌==◌, ◌+◌, refl, sym, ap, ◌∙◌, length, map, rules, tests, true, false, is_some, arith}
+use Rattle.std.proofs.Common.{◌==◌, ◌+◌, refl, sym, ap, ◌∙◌, map, rules, tests}
 use Rattle.std.proofs.lemmas.Iterator.Consumers.{YieldsList-turn, YieldsList-end}
 use Rattle.std.proofs.lemmas.Iterator.Splits.{YieldsList-from_slice_split}
 use Rattle.std.proofs.lemmas.List.{length_push}
@@ -6,7 +6,7 @@ use Rattle.script.specs.Scripts.{lines_of, numbered}
 use Rattle.script.specs.Sayings.{act}
 use Rattle.script.specs.declared.command.Statement.TheVariants as statement
 use Rattle.script.specs.declared.reason.Reason.TheVariants as reason
-use Rattle.script.proofs.Counted.{answer_blank, answer_says, at_number, is_script, next_blank, next_command, next_device, one_script, pushed, refuse_early, refuse_line, refuse_missing, refuse_second}
+use Rattle.script.proofs.Counted.{answer_blank, answer_says, at_number, is_script, next_blank, next_command, next_device, pushed, refuse_early, refuse_line, refuse_missing, refuse_second}
 use Rattle.script.proofs.whole.parse.Goals as goal
 
 pub returns-in-Err-clause-parses : goal.returns-in-Err-clause-parses
