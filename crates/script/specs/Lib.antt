@@ -1,3 +1,4 @@
+pub mod Reasons
 pub mod Words
 pub mod Sayings
 pub mod Scripts

@@ -1,6 +1,7 @@
 //! Why a script is malformed.
 
-ghost use Rattle.std.specs.Prelude.{◌≡◌};
+ghost use Rattle.std.specs.Prelude.{◌≡◌, Some};
+ghost use Rattle.script.specs.Reasons.{error_text, reason_text};
 ghost use Rattle.script.specs.declared.reason.ScriptError.TheVariants.{OutOfMemory};
 
 use std::alloc::AllocFailed;
@@ -20,11 +21,14 @@ pub enum Reason {
     /// Behind a cut's number stands neither `all` nor `nothing`.
     NotTear,
     DeviceMissing,
+    /// A command stands before the device.
     DeviceNotFirst,
     DeviceRepeated,
 }
 
 impl fmt::Display for Reason {
+    ghost output = { λ r. Some (reason_text r) };
+
     fn fmt<W: fmt::Write>(&self, f: &mut fmt::Formatter<W>) -> fmt::Result {
         f.write_str(match self {
             Reason::UnknownCommand => "unknown command",
@@ -32,10 +36,10 @@ impl fmt::Display for Reason {
             Reason::TooManyWords => "too many words",
             Reason::SpaceTooMany => "a space too many",
             Reason::NotNumber => "not a number",
-            Reason::NumberTooLarge => "the number is too large",
+            Reason::NumberTooLarge => "number too large",
             Reason::NotTear => "neither all nor nothing",
-            Reason::DeviceMissing => "there is no device",
-            Reason::DeviceNotFirst => "the device does not come first",
+            Reason::DeviceMissing => "no device",
+            Reason::DeviceNotFirst => "a command before the device",
             Reason::DeviceRepeated => "a second device",
         })
     }
@@ -50,6 +54,8 @@ pub enum ScriptError {
 }
 
 impl fmt::Display for ScriptError {
+    ghost output = { λ e. Some (error_text e) };
+
     fn fmt<W: fmt::Write>(&self, f: &mut fmt::Formatter<W>) -> fmt::Result {
         match self {
             ScriptError::Malformed(line, reason) => write!(f, "line {line}: {reason}"),
@@ -64,6 +70,6 @@ impl<T: Drop> From<AllocFailed<T>> for ScriptError {
     ghost from_gives = { λ _ error. error ≡ OutOfMemory };
 
     fn from(_failed: AllocFailed<T>) -> ScriptError {
-        ScriptError::OutOfMemory
+        Self::OutOfMemory
     }
 }
