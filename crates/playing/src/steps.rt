@@ -7,6 +7,7 @@ use history::calls::{Answer, Call};
 
 /// A step of a run, on a device of which some things can become.
 // Steps are data, so that the laws can speak of every list of them.
+#[derive(Clone, Copy)]
 pub enum Step<'a, T> {
     /// The device is formatted; if that is done, a history begins.
     Format,

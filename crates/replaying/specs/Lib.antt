@@ -1,0 +1,3 @@
+pub mod Beds
+pub mod Replays
+pub mod Runs
