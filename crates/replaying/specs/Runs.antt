@@ -5,7 +5,7 @@ use Rattle.device.specs.Meanings.{Meaning, endless}
 use Rattle.memory.specs.Memories.{memory}
 use Rattle.building.specs.declared.entries.Entry.{Entry}
 use Rattle.history.specs.declared.calls.State.{State}
-use Rattle.playing.specs.declared.making.OutOfMemory.{OutOfMemory}
+use Rattle.std.specs.declared.alloc.AllocError.{AllocError}
 use Rattle.playing.specs.declared.steps.Outcome.{Outcome}
 use Rattle.playing.specs.Laws.{RanTo}
 use Rattle.script.specs.declared.answer.Answer.{Answer}
@@ -31,6 +31,6 @@ pub record Replayed (s : Script) (answers : List Answer) : Type 0 where
   pub ran : RanTo (zeros s.sizes.sectors) (memory [] true endless) (unwritten s.sizes.entries) (steps_for s.lines.items) log device other state entries
 
 -- the answers of the script, unless memory runs out
-abbrev pub Replays : Script → Result (Vec Answer) OutOfMemory → Type 0
+abbrev pub Replays : Script → Result (Vec Answer) AllocError → Type 0
 Replays s (Ok v) = Replayed s v.items
 Replays s (Err x) = Unit {0}

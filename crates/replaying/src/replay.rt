@@ -8,18 +8,17 @@ use crate::bed::Bed;
 use crate::steps::steps_of;
 use building::entries::Entry;
 use memory::writing::{Budget, RootTear, WriteMemory};
-use playing::making::OutOfMemory;
 use playing::running::run;
 use script::answer::Answer;
 use script::whole::Script;
 use stacks::over_memory::{CacheOverMarks, OverMemory};
-use std::alloc::Global;
+use std::alloc::{AllocError, Global};
 
 /// The bytes of a sector.
 const SECTOR: usize = 512;
 
 /// Runs a script on memory of zero bytes, with an entry memory of zeros, and tells what each command answered.
-pub fn replay(alloc: Global, script: &Script<'_>) -> Result<Vec<Answer>, OutOfMemory>
+pub fn replay(alloc: Global, script: &Script<'_>) -> Result<Vec<Answer>, AllocError>
     ensures { Replays script.now result }
 {
     let mut bytes = vec![in alloc; 0u8; script.sizes.sectors as usize * SECTOR]?;
