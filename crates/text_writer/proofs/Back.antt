@@ -71,7 +71,7 @@ pub joined_lines_more : (xs : List LentRecord) (i : ℕ) (d : LentRecord) → i 
     → flat_map line (map lent (take (i + 1) xs)) ≡ flat_map line (map lent (take i xs)) ++ line (lent (get_or xs i d))
 joined_lines_more xs i d l = ap (flat_map line) (map_more lent xs i d l) ∙ sym (flat_map_more line [] (map lent (take i xs)) (lent (get_or xs i d)))
 
-text_append : (rs ss : List Record) → text (rs ++ ss) ≡ flat_map line rs ++ text ss
+pub text_append : (rs ss : List Record) → text (rs ++ ss) ≡ flat_map line rs ++ text ss
 text_append [] ss = refl
 text_append (r ∷ rs) ss = ap (λ (x : List ℕ). line r ++ x) (text_append rs ss) ∙ sym (append_assoc (line r) (flat_map line rs) (text ss))
 

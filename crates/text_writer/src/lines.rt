@@ -21,7 +21,7 @@ pub fn line_len(record: LentRecord<'_>) -> usize
 
 impl Sheet<'_> {
     /// Writes the line of a record.
-    pub(crate) fn put_line(&mut self, record: LentRecord<'_>)
+    pub fn put_line(&mut self, record: LentRecord<'_>)
         requires words { (length «record».key.now < 2 ^ 32) × (length «record».«data».now < 2 ^ 32) }
         requires fits { self.old.written + length (line (lent «record»)) ≤ length self.old.buffer.now }
         ensures { Adds (line (lent «record».entry)) self.old self.new }

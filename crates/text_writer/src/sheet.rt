@@ -9,14 +9,14 @@ use itoa::Buffer;
 /// A lent buffer, and how many bytes at its start are written.
 // Lent bytes with a count, since there is no heap, and the library's writer to a slice does not say which bytes it has written.
 #[derive(Drop)]
-pub(crate) struct Sheet<'a> {
-    pub(crate) buffer: &'a mut [u8],
-    pub(crate) written: usize,
+pub struct Sheet<'a> {
+    pub buffer: &'a mut [u8],
+    pub written: usize,
 }
 
 impl<'a> Sheet<'a> {
     /// A sheet on which nothing is written.
-    pub(crate) fn new(buffer: &'a mut [u8]) -> Sheet<'a>
+    pub fn new(buffer: &'a mut [u8]) -> Sheet<'a>
         ensures same_reference { result.buffer.ghost_name ≡ buffer.entry.ghost_name }
         ensures blank { (result.buffer.now ≡ buffer.old) × (result.written ≡ 0) }
     {
@@ -24,7 +24,7 @@ impl<'a> Sheet<'a> {
     }
 
     /// Writes bytes.
-    pub(crate) fn put(&mut self, bytes: &[u8])
+    pub fn put(&mut self, bytes: &[u8])
         requires { self.old.written + length bytes.now ≤ length self.old.buffer.now }
         ensures { Adds bytes.now self.old self.new }
     {
@@ -34,7 +34,7 @@ impl<'a> Sheet<'a> {
     }
 
     /// Writes a number's digits, and a byte behind them.
-    pub(crate) fn put_number(&mut self, number: u64, end: u8)
+    pub fn put_number(&mut self, number: u64, end: u8)
         requires { self.old.written + (length (decimal number) + 1) ≤ length self.old.buffer.now }
         ensures { Adds (decimal number ++ (end ∷ [])) self.old self.new }
     {
@@ -45,7 +45,7 @@ impl<'a> Sheet<'a> {
 }
 
 /// How many digits a number has.
-pub(crate) fn width(number: u64) -> usize
+pub fn width(number: u64) -> usize
     ensures is { result ≡ length (decimal number) }
     ensures small { result ≤ 20 }
     ensures word { number < 2 ^ 32 → result ≤ 10 }
