@@ -1,6 +1,7 @@
 -- A file that fits in memory can be read there, and is the front of the memory.
-use Rattle.std.proofs.Common.{◌≡◌, ℕ, ◌*◌, true, List, take, drop, Ok, Err, Option, Result, sym, refl, ap, ◌∙◌, subst, ⊎_elim, arith}
+use Rattle.std.proofs.Common.{◌≡◌, ℕ, ◌*◌, ◌<◌, ◌≤◌, true, List, take, drop, Ok, Err, Option, Result, sym, refl, ap, ◌∙◌, subst, inr, ⊎_elim, arith}
 use Rattle.std.proofs.lemmas.List.{take-take}
+use Rattle.std.proofs.lemmas.Bool.{cases_lt}
 use Rattle.faults.specs.declared.file.FileFault.{FileFault}
 use Rattle.faults.specs.declared.file.FileFault.TheVariants.{Range}
 use Rattle.device.specs.Meanings.{Meaning, endless}
@@ -13,7 +14,7 @@ use Rattle.file.specs.Extents as extents
 use Rattle.file.specs.Extents.{MakesExtent, On, file, Readable, Unreadable}
 use Rattle.auditing.specs.declared.audits.Counts.{Counts}
 use Rattle.auditing.specs.Audits.{verdict, Audited}
-use Rattle.auditing.proofs.Answering.{not_both}
+use Rattle.auditing.proofs.Answering.{not_both, only_answer}
 use Rattle.lookup.specs.declared.cursors.Found.{Found}
 use Rattle.lookup.specs.Starts as starts
 use Rattle.lookup_nth.specs.Nths as nths
@@ -37,6 +38,11 @@ module _ (xs : List ℕ) (e : Extent) (start : e.start ≡ 0) where
   judged (Ok c) fits h = subst (λ (f : List ℕ). Judged f (verdict (Ok c))) (same fits) h.1
   judged (Err f) fits h =
       ⊎_elim (λ u. absurd (not_both m e f (readable fits) u)) (λ j. subst (λ (z : List ℕ). Judged z (verdict (Err f))) (same fits) j.1) h
+
+  -- the verdict on the bytes is the audit's answer on this memory
+  audited : (r : Result Counts FileFault) → Fits xs e.len → Judged (take e.len xs) (verdict r) → Audited m e r
+  audited (Ok c) fits j = (readable fits, subst (λ (f : List ℕ). Judged f (verdict (Ok c))) (sym (same fits)) j)
+  audited (Err f) fits j = inr (readable fits, subst (λ (z : List ℕ). Judged z (verdict (Err f))) (sym (same fits)) j)
 
   module _ (off : On m e → ⊥) where
     unread : (f : FileFault) → Unreadable m e f → ◌≡◌ {A = Result Counts FileFault} (Err f) (Err Range)
@@ -74,3 +80,13 @@ module _ (xs : List ℕ) (d : Meaning) (means : d ≡ memory xs true endless) (e
       let a : NthGivesRecord (memory xs true endless) e key n r = subst (λ (k : Meaning). NthGivesRecord k e key n r) means h in
       subst (λ (k : ℕ). FindGivesRecord xs k key n r) long
       (λ (rs : List Record) fits law. a rs (readable xs e start fits) (subst (λ (f : List ℕ). Lawful f rs) (sym (same xs e start fits)) law))
+
+-- one answer fits
+pub one_audit : (xs : List ℕ) (len : ℕ) (r s : Result Counts FileFault) → AuditsMemory xs len r → AuditsMemory xs len s → s ≡ r
+one_audit xs len r s a b =
+    ⊎_elim
+    (λ (over : 512 * fitting xs < len). let off : Fits xs len → ⊥ = λ fits. omega (arith, over, fits) in b.1 off ∙ sym (a.1 off))
+    (λ (fits : len ≤ 512 * fitting xs).
+    let e : Extent = record { start = 0; len = len; bounded = omega (arith, fits) } in
+    only_answer (m xs e refl) e r s (audited xs e refl r fits (a.0 fits)) (audited xs e refl s fits (b.0 fits)))
+    (cases_lt (512 * fitting xs) len)

@@ -1,5 +1,5 @@
 -- Records that a reader walks over, and how long their lines are.
-use Rattle.std.proofs.Common.{◌≡◌, ℕ, ◌+◌, ◌*◌, ◌^◌, ◌<◌, ◌≤◌, List, [], ◌∷◌, ◌++◌, length, decimal, sym, refl, ap, ◌∙◌, subst, append_assoc, arith, length-append}
+use Rattle.std.proofs.Common.{◌≡◌, ℕ, ◌+◌, ◌*◌, ◌^◌, ◌<◌, ◌≤◌, List, [], ◌∷◌, ◌++◌, length, sym, refl, ap, ◌∙◌, subst, append_assoc, arith, length-append}
 use Rattle.std.specs.List.{flat_map, AllByRecursion}
 use Rattle.std.proofs.lemmas.List.{append-nil, flat_map_more}
 use Rattle.std.proofs.lemmas.Fmt.{length-decimal-le}
@@ -98,14 +98,14 @@ one_standing f rs ss a b = one_reading f 2048 (position f 0) rs ss a.reads b.rea
 proper : (f : List ℕ) → Bytes f → (p end : ℕ) (rs : List Record) → end < 2 ^ 32 → Records f p end rs → AllByRecursion Proper rs
 proper f b p end [] l h = tt
 proper f b p end (r ∷ rs) l h = (
-    (
-      subst Bytes h.2 (part_bytes f b (p + 8) (length r.key)),
-      subst Bytes h.3 (part_bytes f b (p + 8 + length r.key) (length r.data')),
-      omega (arith, h.4),
-      omega (arith, h.4),
-    ),
-    proper f b (p + size r) end rs l h.5,
-  )
+  (
+    subst Bytes h.2 (part_bytes f b (p + 8) (length r.key)),
+    subst Bytes h.3 (part_bytes f b (p + 8 + length r.key) (length r.data')),
+    omega (arith, h.4),
+    omega (arith, h.4),
+  ),
+  proper f b (p + size r) end rs l h.5,
+)
 
 pub all_proper : (f : List ℕ) (rs : List Record) → Standing f rs → AllByRecursion Proper rs
 all_proper f rs h = proper f h.bytes 2048 (position f 0) rs (omega (arith, h.small, h.inside.1)) h.reads
@@ -201,5 +201,5 @@ module _ (f : List ℕ) (n i p : ℕ) (s t : Sheet) (w : Written f n i p s t) wh
     w.met,
     all f n i p w.met w.walked l,
     subst (λ (y : List ℕ). Adds y s u) (sym (text_joined w.met))
-    (both (flat_map line w.met) (10 ∷ []) s t u end_room w.adds (subst (λ (y : List ℕ). Adds y t u) e b)),
+        (both (flat_map line w.met) (10 ∷ []) s t u end_room w.adds (subst (λ (y : List ℕ). Adds y t u) e b)),
   )

@@ -4,7 +4,8 @@ ghost use Rattle.std.specs.Prelude.{length};
 ghost use Rattle.dumping.specs.Dumps.{Dumps, GivesTheText, Measures, OnlyDump, OnlyMeasure};
 
 use crate::fault::DumpFault;
-use crate::walking::{measure, write};
+use crate::laying::lay_text;
+use crate::measuring::measure;
 use byte_lists::slices::know_bytes;
 use c_calls::in_memory::audit_in_memory;
 use faults::file::FileFault;
@@ -29,14 +30,14 @@ pub fn dump(memory: &[u8], len: u32, into: &mut [u8]) -> Result<usize, DumpFault
     ensures only { OnlyDump memory.now len (length into.old) into.old result into.new }
     ensures law { GivesTheText memory.now len (length into.old) result into.new }
 {
+    let room = into.len();
     let counts = audit_in_memory(memory, len)?;
     know_bytes(memory);
     let file = &memory[..len as usize];
-    let room = into.len();
     if room < measure(file, counts.records) {
         return Err(DumpFault::Short(room));
     }
     let mut sheet = Sheet::new(into);
-    write(file, counts.records, &mut sheet);
+    lay_text(file, counts.records, &mut sheet);
     Ok(sheet.written)
 }

@@ -3,4 +3,6 @@
 
 pub mod dumping;
 pub mod fault;
+mod laying;
+mod measuring;
 mod walking;

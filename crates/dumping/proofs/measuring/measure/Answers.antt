@@ -1,8 +1,7 @@
-use Rattle.std.proofs.Common.{◌≡◌, ℕ, length, sym, ◌∙◌, subst, arith}
-use Rattle.text.specs.Texts.{line}
+use Rattle.std.proofs.Common.{ℕ, sym, ◌∙◌, subst, arith}
 use Rattle.text.specs.Readings.{lent}
 use Rattle.dumping.proofs.Walked.{Measured, Takes, unmeasured, measured_ahead, measured_more, measured_bound, all_measured}
-use Rattle.dumping.proofs.walking.measure.Goals as goal
+use Rattle.dumping.proofs.measuring.measure.Goals as goal
 
 pub loop-init : goal.loop-init
 loop-init c =
@@ -27,8 +26,7 @@ pub loop-preserved : goal.loop-preserved
 loop-preserved c =
     let i = c.loop.invariant in
     let t : Takes c.loop.reader.file.now c.loop.reader.place (lent c.take.result) c.take.new.reader.place = c.take.ensures.first in
-    let m = measured_more c.args.file.now c.args.records c.loop.counter c.loop.reader.place c.loop.len i.1 c.loop-test.true c.loop.reader.file.now i.0 (lent c.take.result) c.take.new.reader.place t in
-    (
+    let m = measured_more c.args.file.now c.args.records c.loop.counter c.loop.reader.place c.loop.len i.1 c.loop-test.true c.loop.reader.file.now i.0 (lent c.take.result) c.take.new.reader.place t in (
       c.take.ensures.same ∙ i.0,
       rw c.line_len-len.ensures m,
     )

@@ -1,7 +1,7 @@
-use Rattle.std.proofs.Common.{◌≡◌, ℕ, sym, refl, ◌∙◌, subst, rules}
+use Rattle.std.proofs.Common.{ℕ, sym, ◌∙◌, subst, rules}
 use Rattle.text.specs.Readings.{lent}
 use Rattle.dumping.proofs.Walked.{Written, Takes, unwritten, written_ahead, line_fits, written_more, end_fits, all_written}
-use Rattle.dumping.proofs.walking.write.Goals as goal
+use Rattle.dumping.proofs.laying.lay_text.Goals as goal
 
 pub loop-init : goal.loop-init
 loop-init c =
@@ -27,7 +27,7 @@ loop-preserved c =
     let t : Takes c.loop.reader.file.now c.loop.reader.place (lent c.take.result) c.take.new.reader.place = c.take.ensures.first in (
       c.take.ensures.same ∙ i.0,
       written_more c.args.file.now c.args.records c.loop.counter c.loop.reader.place c.args.sheet.now c.loop.sheet i.1 c.loop-test.true c.loop.reader.file.now i.0 (lent c.take.result)
-      c.take.new.reader.place t c.put_line.new.self c.put_line.ensures,
+          c.take.new.reader.place t c.put_line.new.self c.put_line.ensures,
     )
 
 pub put-requires : goal.put-requires
