@@ -13,7 +13,7 @@ use text_writer::sheet::Sheet;
 
 // Memory and length are two parameters, as the audit of a file in memory takes them.
 
-/// How long the text of the file of `len` bytes is that memory begins with; refuses as the audit does.
+/// How long the text of the file of `len` bytes is that memory begins with. A file that the audit refuses has none: its refusal is the answer.
 pub fn dump_len(memory: &[u8], len: u32) -> Result<usize, FileFault>
     ensures answer { Measures memory.now len result }
     ensures only { OnlyMeasure memory.now len result }
@@ -24,7 +24,7 @@ pub fn dump_len(memory: &[u8], len: u32) -> Result<usize, FileFault>
 }
 
 /// Writes the file of `len` bytes that memory begins with as text to the start of a lent buffer, and says how long the text is.
-/// It refuses as the audit does, and then a buffer that is too short. A refused call writes nothing.
+/// A file that the audit refuses is refused first, then a buffer that is too short. A refused call writes nothing.
 pub fn dump(memory: &[u8], len: u32, into: &mut [u8]) -> Result<usize, DumpFault>
     ensures answer { Dumps memory.now len (length into.old) into.old result into.new }
     ensures only { OnlyDump memory.now len (length into.old) into.old result into.new }

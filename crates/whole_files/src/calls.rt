@@ -31,7 +31,7 @@ impl WholeFile {
         Ok(WholeFile { memory, len })
     }
 
-    /// The text of its records; refuses as the audit does.
+    /// The text of its records, or the audit's refusal.
     pub fn dump(&self, heap: Global) -> Result<Vec<u8>, WholeFault>
         ensures { Dumped self.now result }
     {
