@@ -1,0 +1,5 @@
+pub mod Reports
+pub mod Sizes
+pub mod Steps
+pub mod Makes
+pub mod Laws
