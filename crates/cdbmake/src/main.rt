@@ -1,0 +1,74 @@
+//! Makes a cdb file from the text on standard input: `cdbmake FILE TMP` writes TMP and then renames it to FILE.
+#![tactic(auto)]
+
+use anyhow::{Context, anyhow};
+use building::entries::Entry;
+use faults::report::Report;
+use making::fault::MakeFault;
+use making::making::make_file;
+use making::sizes::file_size;
+use memory::writing::{Budget, RootTear, WriteMemory};
+use std::fs::File;
+use std::io::{Read, Write};
+use std::process::ExitCode;
+use std::{env, fs, io};
+
+fn main(rt: HostRuntime) -> io::Result<ExitCode> {
+    match run(&rt) {
+        Ok(()) => Ok(ExitCode::SUCCESS),
+        Err(error) => {
+            eprintln!(rt; "cdbmake: {error:#}")?;
+            Ok(ExitCode::FAILURE)
+        }
+    }
+}
+
+fn run(rt: &HostRuntime) -> anyhow::Result<()> {
+    let mut words = env::args(rt)?.skip(1);
+    let (Some(file), Some(tmp), None) = (words.next(), words.next(), words.next()) else {
+        return Err(anyhow!("usage: cdbmake FILE TMP"));
+    };
+    let mut text = Vec::new(rt.alloc());
+    rt.stdin()
+        .read_to_end(&mut text)
+        .context("reading standard input")?;
+    let made = make(rt, &text)?;
+    write(rt, tmp.as_str(), &made).context(format_args!("writing {tmp}"))?;
+    fs::rename(rt, tmp.as_str(), file.as_str())
+        .context(format_args!("renaming {tmp} to {file}"))?;
+    Ok(())
+}
+
+/// The file of a text, made in memory.
+fn make(rt: &HostRuntime, text: &[u8]) -> anyhow::Result<Vec<u8>> {
+    let size = file_size(text).map_err(refusal)?;
+    let sectors = size.len.div_ceil(512) as usize;
+    let mut bytes = vec![in rt.alloc(); 0u8; 512 * sectors]?;
+    let mut entries = vec![in rt.alloc(); Entry { hash: 0, place: 0 }; size.records]?;
+    let mut device = WriteMemory::new(&mut bytes, Budget::Endless, RootTear::All);
+    make_file(&mut device, &mut entries, text).map_err(refusal)?;
+    bytes.truncate(size.len as usize);
+    Ok(bytes)
+}
+
+/// Writes a file, and waits until it is stored.
+fn write(rt: &HostRuntime, name: &str, bytes: &[u8]) -> io::Result<()> {
+    let mut file = File::create(rt, name)?;
+    file.write_all(bytes)?;
+    file.sync_all()
+}
+
+/// What was refused, in words and numbers.
+fn refusal(fault: MakeFault) -> anyhow::Error {
+    let words = match fault {
+        MakeFault::Text(_) => "the text is malformed",
+        MakeFault::Entries => "there are too few entries",
+        MakeFault::Long(_) => "the file would be too long",
+        MakeFault::File(_) => "the memory refuses a write",
+    };
+    let report = Report::from(fault);
+    let number = report.number;
+    let table = report.table;
+    let place = report.place;
+    anyhow!("{words}: number {number}, table {table}, place {place}")
+}
