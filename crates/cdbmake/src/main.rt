@@ -5,7 +5,7 @@ use anyhow::{Context, anyhow};
 use building::entries::Entry;
 use faults::report::Report;
 use making::fault::MakeFault;
-use making::making::make_file;
+use making::whole::make_file;
 use making::sizes::file_size;
 use memory::writing::{Budget, RootTear, WriteMemory};
 use std::fs::File;

@@ -2,6 +2,6 @@
 #![tactic(auto)]
 
 pub mod fault;
-pub mod making;
 pub mod sizes;
+pub mod whole;
 mod writing_records;

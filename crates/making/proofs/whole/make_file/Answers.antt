@@ -7,7 +7,7 @@ use Rattle.making.specs.Makes.{MakesFile}
 use Rattle.making.proofs.Backward.{gives_the_text_back}
 use Rattle.making.proofs.Caused.{refused_for_cause}
 use Rattle.making.proofs.Answering.{too_long, records_fit, record_refused, close_within, close_refused, made}
-use Rattle.making.proofs.making.make_file.Goals as goal
+use Rattle.making.proofs.whole.make_file.Goals as goal
 
 pub returns-in_err-counts : goal.returns-in_err-counts
 returns-in_err-counts g c =

@@ -1,0 +1,5 @@
+pub mod Reports
+pub mod Refusals
+pub mod Adding
+pub mod Ending
+pub mod Makes
