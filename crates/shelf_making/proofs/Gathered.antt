@@ -16,7 +16,7 @@ use Rattle.shelf.specs.declared.refusals.Refused.{Refused}
 use Rattle.shelf.specs.declared.states.Draft.{Draft}
 use Rattle.shelf.specs.Adds.{Adds}
 use Rattle.making.proofs.Walking.{Handed, handed, ended}
-use Rattle.shelf_making.specs.Adding.{Added, none, more, AddStopped, AddsAll, AddsText}
+use Rattle.shelf_making.specs.Adding.{Added, none, more, AddsAll, AddsText}
 
 pub record Adding (m : Meaning) (d : Draft) (es : List Entry) (t : List ℕ) (q : ℕ) (e : Draft) (n : Meaning) (fs : List Entry) : Type 0 where
   pub list : List Record
@@ -70,17 +70,21 @@ module _ (m : Meaning) (d : Draft) (es : List Entry) (t : List ℕ) (q : ℕ) (e
     }
 
     pub stopped : (y : Refused Draft) (o : Meaning) (gs : List Entry) → Adds n e fs (lent x) (Err y) o gs → AddsText m d es t (Err y) o gs
-    stopped y o gs a = (w.list, w.text, record {
-      before = w.done;
-      next = lent x;
-      after = next.rest;
-      among = w.among ∙ ap (λ (z : List Record). w.done ++ z) begins;
-      draft = e;
-      between = n;
-      entries = fs;
-      added = w.added;
-      refused = a;
-    })
+    stopped y o gs a = (
+      w.list,
+      w.text,
+      record {
+        before = w.done;
+        next = lent x;
+        after = next.rest;
+        among = w.among ∙ ap (λ (z : List Record). w.done ++ z) begins;
+        draft = e;
+        between = n;
+        entries = fs;
+        added = w.added;
+        refused = a;
+      },
+    )
 
   pub all : Hands t q (Ok None) u → AddsText m d es t (Ok e) n fs
   all h =

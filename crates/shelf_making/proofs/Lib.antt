@@ -1,1 +1,9 @@
 pub mod Gathered
+pub mod Chains
+pub mod Lawless
+pub mod Rooting
+pub mod Staying
+pub mod Ready
+pub mod Keeping
+pub mod Causes
+pub mod ByText

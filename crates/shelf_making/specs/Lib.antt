@@ -3,3 +3,4 @@ pub mod Refusals
 pub mod Adding
 pub mod Ending
 pub mod Makes
+pub mod Laws

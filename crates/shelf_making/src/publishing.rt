@@ -1,7 +1,8 @@
 //! A file made on a shelf.
 
-ghost use Rattle.std.specs.Prelude.{map};
+ghost use Rattle.std.specs.Prelude.{length, map};
 ghost use Rattle.text.specs.Readings.{lent};
+ghost use Rattle.shelf_making.specs.Laws.{GivesTheTextBack, KeepsLive, KeepsLiveByText, RefusedForCause, RefusedForCauseByText};
 ghost use Rattle.shelf_making.specs.Makes.{Makes, MakesText};
 
 use crate::adding::{add_records, add_text};
@@ -21,6 +22,9 @@ pub fn make_text<D: WritableDevice>(
     text: &[u8],
 ) -> Result<Shelf, MakeRefused>
     ensures makes { MakesText (D.Device.meaning d.old) shelf entries.old text.now result (D.Device.meaning d.new) entries.new }
+    ensures live { KeepsLiveByText (D.Device.meaning d.old) shelf (length entries.old) text.now result (D.Device.meaning d.new) }
+    ensures back { GivesTheTextBack text.now result (D.Device.meaning d.new) }
+    ensures cause { RefusedForCauseByText (D.Device.meaning d.old) shelf (length entries.old) text.now result (D.Device.meaning d.new) }
 {
     if let Err(fault) = tally(text) {
         return Err(MakeRefused {
@@ -40,6 +44,8 @@ pub fn make_records<D: WritableDevice>(
     records: &[LentRecord<'_>],
 ) -> Result<Shelf, MakeRefused>
     ensures makes { Makes (D.Device.meaning d.old) shelf entries.old (map lent records.now) result (D.Device.meaning d.new) entries.new }
+    ensures live { KeepsLive (D.Device.meaning d.old) shelf (length entries.old) (map lent records.now) result (D.Device.meaning d.new) }
+    ensures cause { RefusedForCause (D.Device.meaning d.old) shelf (length entries.old) (map lent records.now) result (D.Device.meaning d.new) }
 {
     let draft = add_records(shelf.begin(), d, entries, records)?;
     end_draft(draft, d, entries)

@@ -1,4 +1,4 @@
-use Rattle.std.proofs.Common.{List, map, Ok, Err}
+use Rattle.std.proofs.Common.{map, Err}
 use Rattle.std.proofs.lemmas.Result.{err_from_is_err_and}
 use Rattle.device.specs.Meanings.{Meaning}
 use Rattle.text.specs.Readings.{lent}

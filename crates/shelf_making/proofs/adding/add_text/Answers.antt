@@ -1,8 +1,7 @@
-use Rattle.std.proofs.Common.{◌≡◌, ℕ, List, Some, None, Ok, Err, Option, Result, refl, ap, ◌∙◌, subst}
+use Rattle.std.proofs.Common.{◌≡◌, ℕ, List, Some, None, Ok, Err, refl, ◌∙◌}
 use Rattle.std.proofs.lemmas.Result.{err_from_is_err_and}
 use Rattle.device.specs.Meanings.{Meaning}
-use Rattle.building.specs.declared.entries.Entry.{Entry}
-use Rattle.text.specs.Readings.{lent, Hands}
+use Rattle.text.specs.Readings.{Hands}
 use Rattle.text.proofs.Counting.{over}
 use Rattle.shelf_making.specs.Adding.{AddsText}
 use Rattle.shelf_making.proofs.Gathered.{begun, taken, one_more, stopped, all}

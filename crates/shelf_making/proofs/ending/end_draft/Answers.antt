@@ -1,6 +1,5 @@
-use Rattle.std.proofs.Common.{◌≡◌, Ok, Err, refl}
 use Rattle.std.proofs.lemmas.Result.{err_from_is_err_and}
-use Rattle.shelf_making.specs.Ending.{EndsDraft, published, finish_refused, publish_refused}
+use Rattle.shelf_making.specs.Ending.{published, finish_refused, publish_refused}
 use Rattle.shelf_making.proofs.ending.end_draft.Goals as goal
 
 pub returns-in_err-finished : goal.returns-in_err-finished
