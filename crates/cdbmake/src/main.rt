@@ -5,9 +5,8 @@ use anyhow::{Context, anyhow};
 use building::entries::Entry;
 use faults::report::Report;
 use making::fault::MakeFault;
-use making::whole::make_file;
+use making::in_memory::make_in_memory;
 use making::sizes::file_size;
-use memory::writing::{Budget, RootTear, WriteMemory};
 use std::fs::File;
 use std::io::{Read, Write};
 use std::process::ExitCode;
@@ -32,23 +31,13 @@ fn run(rt: &HostRuntime) -> anyhow::Result<()> {
     rt.stdin()
         .read_to_end(&mut text)
         .context("reading standard input")?;
-    let made = make(rt, &text)?;
-    write(rt, tmp.as_str(), &made).context(format_args!("writing {tmp}"))?;
-    fs::rename(rt, tmp.as_str(), file.as_str())
-        .context(format_args!("renaming {tmp} to {file}"))?;
-    Ok(())
-}
-
-/// The file of a text, made in memory.
-fn make(rt: &HostRuntime, text: &[u8]) -> anyhow::Result<Vec<u8>> {
-    let size = file_size(text).map_err(refusal)?;
-    let sectors = size.len.div_ceil(512) as usize;
-    let mut bytes = vec![in rt.alloc(); 0u8; 512 * sectors]?;
+    let size = file_size(&text).map_err(refusal)?;
+    let mut memory = vec![in rt.alloc(); 0u8; size.memory()]?;
     let mut entries = vec![in rt.alloc(); Entry { hash: 0, place: 0 }; size.records]?;
-    let mut device = WriteMemory::new(&mut bytes, Budget::Endless, RootTear::All);
-    make_file(&mut device, &mut entries, text).map_err(refusal)?;
-    bytes.truncate(size.len as usize);
-    Ok(bytes)
+    let made = make_in_memory(&mut memory, &mut entries, &text).map_err(refusal)?;
+    write(rt, tmp.as_str(), made).context(format_args!("writing {tmp}"))?;
+    fs::rename(rt, tmp.as_str(), file.as_str()).context(format_args!("renaming {tmp} to {file}"))?;
+    Ok(())
 }
 
 /// Writes a file, and waits until it is stored.

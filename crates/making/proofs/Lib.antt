@@ -6,3 +6,4 @@ pub mod Filed
 pub mod Backward
 pub mod Caused
 pub mod Answering
+pub mod Lent

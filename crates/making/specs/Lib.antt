@@ -3,3 +3,4 @@ pub mod Sizes
 pub mod Steps
 pub mod Makes
 pub mod Laws
+pub mod InMemory

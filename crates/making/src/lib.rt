@@ -2,6 +2,7 @@
 #![tactic(auto)]
 
 pub mod fault;
+pub mod in_memory;
 pub mod sizes;
 pub mod whole;
 mod writing_records;

@@ -1,5 +1,6 @@
 //! How much memory the making of a file takes.
 
+ghost use Rattle.std.specs.Prelude.{◌≡◌, ◌+◌, ◌%◌, ◌<◌, ◌≤◌};
 ghost use Rattle.making.specs.Sizes.{FitsIn, Measures};
 
 use crate::fault::MakeFault;
@@ -14,6 +15,17 @@ const LARGEST: u32 = 4294966784;
 pub struct FileSize {
     pub records: usize,
     pub len: u32,
+}
+
+impl FileSize {
+    /// How much memory the file takes: whole sectors.
+    pub fn memory(&self) -> usize
+        ensures whole { result % 512 ≡ 0 }
+        ensures enough { self.now.len ≤ result }
+        ensures least { result < self.now.len + 512 }
+    {
+        self.len.div_ceil(512) as usize * 512
+    }
 }
 
 /// How long the file of so many records is: a header, the records, and two slots for each. It is refused past a limit.
