@@ -3,9 +3,12 @@
 #![tactic(auto)]
 
 use anyhow::anyhow;
+use building::entries::Entry;
 use c_calls::in_memory::find_in_memory;
 use faults::file::FileFault;
 use faults::report::Report;
+use making::in_memory::make_in_memory;
+use making::sizes::file_size;
 use records::placed::PlacedRecord;
 use records::reader::RecordReader;
 use std::fs;
@@ -51,7 +54,7 @@ fn both(rt: &HostRuntime, name: &str) -> anyhow::Result<()> {
     let counted = compared(rt, &text, &file)?;
     let records = counted.records;
     let bytes = counted.bytes;
-    Ok(println!(rt; "{name}: ok,{records},{bytes}, same records, same text, all found")?)
+    Ok(println!(rt; "{name}: ok,{records},{bytes}, same records, same text, same file, all found")?)
 }
 
 fn compared<'a>(rt: &HostRuntime, text: &'a [u8], file: &'a [u8]) -> anyhow::Result<Tally> {
@@ -82,6 +85,9 @@ fn compared<'a>(rt: &HostRuntime, text: &'a [u8], file: &'a [u8]) -> anyhow::Res
     }
     if !looked_up(rt, &from_file, file)? {
         return Err(anyhow!("a lookup gives other data"));
+    }
+    if !made_again(rt, text, file)? {
+        return Err(anyhow!("another file is made"));
     }
     Ok(counted)
 }
@@ -114,6 +120,16 @@ fn written(rt: &HostRuntime, records: &[LentRecord<'_>], text: &[u8]) -> anyhow:
     let mut buffer = vec![in rt.alloc(); 0u8; text.len()]?;
     let written = write_text(records, &mut buffer);
     Ok(written == Ok(text.len()) && buffer.as_slice() == text)
+}
+
+/// Whether the file that is made of the text is this one, byte for byte.
+fn made_again(rt: &HostRuntime, text: &[u8], file: &[u8]) -> anyhow::Result<bool> {
+    let Ok(size) = file_size(text) else {
+        return Err(anyhow!("the text is refused"));
+    };
+    let mut memory = vec![in rt.alloc(); 0u8; size.memory()]?;
+    let mut entries = vec![in rt.alloc(); Entry { hash: 0, place: 0 }; size.records]?;
+    Ok(make_in_memory(&mut memory, &mut entries, text).is_ok_and(|made| made == file))
 }
 
 /// Whether each record's data are found under its key, by the record's number among those of the key, and none after the last.
