@@ -3,26 +3,21 @@
 
 use anyhow::{Context, anyhow};
 use building::entries::Entry;
-use faults::report::Report;
-use making::fault::MakeFault;
 use making::in_memory::make_in_memory;
 use making::sizes::file_size;
 use std::fs::File;
 use std::io::{Read, Write};
 use std::process::ExitCode;
 use std::{env, fs, io};
+use telling::ending::end;
+use telling::refusal::Refusal;
 
-fn main(rt: HostRuntime) -> io::Result<ExitCode> {
-    match run(&rt) {
-        Ok(()) => Ok(ExitCode::SUCCESS),
-        Err(error) => {
-            eprintln!(rt; "cdbmake: {error:#}")?;
-            Ok(ExitCode::FAILURE)
-        }
-    }
+fn main(rt: HostRuntime) -> ExitCode {
+    let outcome = run(&rt);
+    end(&rt, "cdbmake", outcome)
 }
 
-fn run(rt: &HostRuntime) -> anyhow::Result<()> {
+fn run(rt: &HostRuntime) -> anyhow::Result<ExitCode> {
     let mut words = env::args(rt)?.skip(1);
     let (Some(file), Some(tmp), None) = (words.next(), words.next(), words.next()) else {
         return Err(anyhow!("usage: cdbmake FILE TMP"));
@@ -31,13 +26,15 @@ fn run(rt: &HostRuntime) -> anyhow::Result<()> {
     rt.stdin()
         .read_to_end(&mut text)
         .context("reading standard input")?;
-    let size = file_size(&text).map_err(refusal)?;
+    let size = file_size(&text).map_err(|fault| Refusal::new(fault))?;
     let mut memory = vec![in rt.alloc(); 0u8; size.memory()]?;
     let mut entries = vec![in rt.alloc(); Entry { hash: 0, place: 0 }; size.records]?;
-    let made = make_in_memory(&mut memory, &mut entries, &text).map_err(refusal)?;
+    let made = make_in_memory(&mut memory, &mut entries, &text).map_err(|fault| Refusal::new(
+        fault,
+    ))?;
     write(rt, tmp.as_str(), made).context(format_args!("writing {tmp}"))?;
     fs::rename(rt, tmp.as_str(), file.as_str()).context(format_args!("renaming {tmp} to {file}"))?;
-    Ok(())
+    Ok(ExitCode::SUCCESS)
 }
 
 /// Writes a file, and waits until it is stored.
@@ -45,19 +42,4 @@ fn write(rt: &HostRuntime, name: &str, bytes: &[u8]) -> io::Result<()> {
     let mut file = File::create(rt, name)?;
     file.write_all(bytes)?;
     file.sync_all()
-}
-
-/// What was refused, in words and numbers.
-fn refusal(fault: MakeFault) -> anyhow::Error {
-    let words = match fault {
-        MakeFault::Text(_) => "the text is malformed",
-        MakeFault::Entries => "there are too few entries",
-        MakeFault::Long(_) => "the file would be too long",
-        MakeFault::File(_) => "the memory refuses a write",
-    };
-    let report = Report::from(fault);
-    let number = report.number;
-    let table = report.table;
-    let place = report.place;
-    anyhow!("{words}: number {number}, table {table}, place {place}")
 }

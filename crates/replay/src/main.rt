@@ -1,32 +1,25 @@
 //! Runs a script of shelf calls, which comes in on standard input, on memory. Each call of the shelf prints a line; of a malformed script nothing is run.
 #![tactic(auto)]
 
-use anyhow::Result;
 use replaying::replay::replay;
 use script::answer::{Answer, AnswerLine};
 use script::command::Command;
-use script::reason::ScriptError;
 use script::whole::parse;
 use std::io::{BufWriter, Read, Write};
 use std::process::ExitCode;
+use telling::ending::end;
 
 fn main(rt: HostRuntime) -> ExitCode {
-    match run(&rt) {
-        Ok(()) => ExitCode::SUCCESS,
-        Err(error) => {
-            // Where this fails, there is nowhere left to tell it.
-            let _ = eprintln!(rt; "replay: {error}");
-            ExitCode::FAILURE
-        }
-    }
+    let outcome = run(&rt);
+    end(&rt, "replay", outcome)
 }
 
-fn run(rt: &HostRuntime) -> Result<()> {
+fn run(rt: &HostRuntime) -> anyhow::Result<ExitCode> {
     let alloc = rt.alloc();
     let mut text = Vec::new(alloc);
     rt.stdin().read_to_end(&mut text)?;
     let script = parse(alloc, &text)?;
-    let answers = replay(alloc, &script).map_err(|_| ScriptError::OutOfMemory)?;
+    let answers = replay(alloc, &script)?;
     let mut out = BufWriter::new(alloc, rt.stdout())?;
     for (line, answer) in script.lines.iter().zip(answers) {
         let command = line.command;
@@ -35,7 +28,7 @@ fn run(rt: &HostRuntime) -> Result<()> {
         }
     }
     out.flush()?;
-    Ok(())
+    Ok(ExitCode::SUCCESS)
 }
 
 /// Whether an answer is printed: that of a call, and any refusal. What becomes of the device between calls is no call.
