@@ -14,11 +14,7 @@ mod tests {
         let zeros = vec![in rt.alloc(); 0u8; 61440]?;
         assert_eq!(rt;
             audit_input(&zeros).map_err(Report::from),
-            Err(Report {
-                number: 2,
-                table: 0,
-                place: 0,
-            })
+            Err(Report::in_table(2, 0, 0))
         );
         Ok(())
     }
@@ -28,11 +24,7 @@ mod tests {
         let zeros = vec![in rt.alloc(); 0u8; 61441]?;
         assert_eq!(rt;
             audit_input(&zeros).map_err(Report::from),
-            Err(Report {
-                number: 27,
-                table: 256,
-                place: 61440,
-            })
+            Err(Report::placed(27, 61440))
         );
         Ok(())
     }
@@ -41,11 +33,7 @@ mod tests {
     fn refuses_no_bytes_as_short(rt: HostRuntime) {
         assert_eq!(rt;
             audit_input(b"").map_err(Report::from),
-            Err(Report {
-                number: 1,
-                table: 256,
-                place: 0,
-            })
+            Err(Report::bare(1))
         );
     }
 
@@ -61,14 +49,7 @@ mod tests {
             }),
         )?;
         assert_eq!(rt; ok.as_str(), "ok,2,4,3\n");
-        let no = line(
-            heap,
-            Err(Report {
-                number: 8,
-                table: 196,
-                place: 2058,
-            }),
-        )?;
+        let no = line(heap, Err(Report::in_table(8, 196, 2058)))?;
         assert_eq!(rt; no.as_str(), "no,8,196,2058\n");
         Ok(())
     }

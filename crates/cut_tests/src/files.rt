@@ -64,6 +64,7 @@ fn expect_data<D: Device>(
 }
 
 /// The next data, of at most 600 bytes, must be these.
+// As in `shelf_tests`: a crate for this one helper would be longer, and `checks` rests on no lookup, since tests of lower crates use it.
 fn expect_next<D: Device>(
     d: &mut D,
     live: Extent,

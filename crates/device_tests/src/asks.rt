@@ -15,6 +15,7 @@ pub(crate) const RANGE: Answer = Err(DeviceFault::Range);
 pub(crate) const POWER: Answer = Err(DeviceFault::Power);
 
 /// A question, with the answer that it must get.
+// Data and no closures, since one table of asks is put to devices of different types.
 #[derive(Clone, Copy)]
 pub(crate) enum Ask {
     /// The state of a sector.

@@ -7,6 +7,7 @@ use checks::check_eq;
 use faults::device::DeviceFault;
 use marks::layer::Marked;
 use memory::writing::{Budget, RootTear, WriteMemory};
+use stacks::over_memory::{CacheOverMarks, OverMemory};
 use std::test::Fail;
 
 /// What is asked of a cache over 24 sectors, each of which is made of its own number; so many reads must reach the device below.
@@ -119,11 +120,7 @@ fn a_write_leaves_other_pages() -> Result<(), Fail> {
 fn a_kept_sector_that_goes_bad_is_refused() -> Result<(), Fail> {
     let mut bytes = [0; 12288];
     number(&mut bytes);
-    let mut device = Cache::new(Marked::new(WriteMemory::new(
-        &mut bytes,
-        Budget::Endless,
-        RootTear::All,
-    )));
+    let mut device = CacheOverMarks::over(&mut bytes, Budget::Endless, RootTear::All);
     expect(&mut device, &[sector(3)])?;
     device.mark(3)?;
     let bad = Err(DeviceFault::Bad(1536));

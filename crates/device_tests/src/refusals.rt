@@ -1,11 +1,11 @@
 //! Each refusal in its order: 11, then 21, then 22.
 
 use crate::asks::*;
-use cache::layer::Cache;
 use device::device::WritableDevice;
 use faults::device::DeviceFault;
 use marks::layer::Marked;
 use memory::writing::{Budget, RootTear, WriteMemory};
+use stacks::over_memory::{CacheOverMarks, MarksOverCache, OverMemory};
 use std::test::Fail;
 
 const BAD: Answer = Err(DeviceFault::Bad(1024));
@@ -70,11 +70,7 @@ fn marks_over_memory() -> Result<(), Fail> {
 #[test]
 fn cache_over_marks() -> Result<(), Fail> {
     let mut bytes = [1; 2100];
-    let mut device = Cache::new(Marked::new(WriteMemory::new(
-        &mut bytes,
-        Budget::Count(0),
-        RootTear::All,
-    )));
+    let mut device = CacheOverMarks::over(&mut bytes, Budget::Count(0), RootTear::All);
     device.mark(2)?;
     in_order(&mut device)
 }
@@ -82,11 +78,7 @@ fn cache_over_marks() -> Result<(), Fail> {
 #[test]
 fn marks_over_cache() -> Result<(), Fail> {
     let mut bytes = [1; 2100];
-    let mut device = Marked::new(Cache::new(WriteMemory::new(
-        &mut bytes,
-        Budget::Count(0),
-        RootTear::All,
-    )));
+    let mut device = MarksOverCache::over(&mut bytes, Budget::Count(0), RootTear::All);
     device.mark(2)?;
     in_order(&mut device)
 }

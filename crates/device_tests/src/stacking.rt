@@ -32,11 +32,10 @@ fn expect_rewrites<D: WritableDevice>(stack: &mut D) -> Result<(), Fail> {
 
 /// A cut, a restart, a cut in sector 0 that stores what `tear` says, and the bytes that are there then.
 fn expect_restarts<'a, D: OverMemory<'a> + Drop>(
-    stack: D,
+    mut stack: D,
     tear: RootTear,
     left: &[Ask],
 ) -> Result<(), Fail> {
-    let mut stack = stack;
     expect(&mut stack, &[Ask::Byte(1024, 1)])?;
     let mut stack = stack.with_writes(Budget::Count(0), RootTear::Nothing);
     expect(&mut stack, &CUT)?;

@@ -60,7 +60,7 @@ impl<'a> FlippingMemory<'a> {
     }
 
     /// Fills `piece` with what the device holds at `place`.
-    // It takes the device shared, so that reading is known to leave it.
+    // Tried without: that a read leaves the device did not prove. Here it is lent shared, so it is known.
     fn fill(&self, place: u32, piece: &mut [u8])
         requires { within (fitting self.now.bytes.now) place (length piece.old) ≡ true }
         ensures { piece.new ≡ part (memory self.now.bytes.now true endless).bytes place (length piece.old) }

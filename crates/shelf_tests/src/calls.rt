@@ -19,10 +19,7 @@ pub(crate) const BLANK: Entry = Entry { hash: 0, place: 0 };
 
 /// What a call that must be done gives.
 pub(crate) fn done<T: Drop, S: Drop>(answer: Result<T, Refused<S>>) -> Result<T, Fail> {
-    match answer {
-        Ok(state) => Ok(state),
-        Err(Refused { fault, draft: _ }) => Err(Fail::from(fault)),
-    }
+    answer.map_err(|refused| Fail::from(refused.fault))
 }
 
 /// What a call that must be refused, and told so, gives back.

@@ -64,6 +64,7 @@ fn expect_broken(scribbled: &[Entry; 3], want: Report) -> Result<(), Fail> {
         return Err(Fail::new("the draft is gone"));
     };
     let live = finished.abandon().live();
+    // By its parts, since an extent has no equality.
     check_eq((live.start, live.len), (3072, 2048 + 12 + 16))?;
     expect_data(&mut device, live, b"a", &[b"old"])?;
     let reopened = open(&mut device)?.live();

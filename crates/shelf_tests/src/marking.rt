@@ -24,7 +24,7 @@ fn bad(sector: u32) -> Report {
 
 /// The sector, if it is one of these.
 fn among(sector: u32, sectors: &[u32]) -> Option<u32> {
-    sectors.iter().any(|s| *s == sector).then_some(sector)
+    sectors.contains(&sector).then_some(sector)
 }
 
 fn mark_all(device: &mut CacheOverMarks<'_>, sectors: &[u32]) -> Result<(), Fail> {
@@ -51,8 +51,7 @@ fn expect_format(sectors: &[u32], want: Option<u32>) -> Result<(), Fail> {
 }
 
 /// Publishes a draft of the one record, which must be found then.
-fn expect_published(device: CacheOverMarks<'_>, finished: Finished) -> Result<(), Fail> {
-    let mut device = device;
+fn expect_published(mut device: CacheOverMarks<'_>, finished: Finished) -> Result<(), Fail> {
     expect_data(&mut device, finished.live(), &KEY, &[])?;
     let live = done(finished.publish(&mut device))?.live();
     expect_data(&mut device, live, &KEY, &[&DATA])

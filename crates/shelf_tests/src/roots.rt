@@ -11,13 +11,18 @@ use shelf::opening::open;
 use shelf::states::Shelf;
 use std::test::Fail;
 
-/// The number with which an open is refused, or 0.
-fn refusal_of(opened: Result<Shelf, ShelfFault>) -> u32 {
-    opened.err().map_or(0, |fault| Report::from(fault).number)
+/// How an open is refused, if it is.
+fn refusal_of(opened: Result<Shelf, ShelfFault>) -> Option<Report> {
+    opened.err().map(Report::from)
 }
 
-/// An open must be refused with this number, or 0, where sector 0 has these bytes at this place in place of a new shelf's.
-fn expect_open(place: u32, piece: &[u8], want: u32) -> Result<(), Fail> {
+/// The refusal where no root is lawful.
+fn no_root() -> Option<Report> {
+    Some(Report::bare(23))
+}
+
+/// An open must be refused so, or be done, where sector 0 has these bytes at this place in place of a new shelf's.
+fn expect_open(place: u32, piece: &[u8], want: Option<Report>) -> Result<(), Fail> {
     let mut bytes = [0; 5632];
     let mut device = WriteMemory::new(&mut bytes, Budget::Endless, RootTear::All);
     format(&mut device)?;
@@ -29,21 +34,21 @@ fn expect_open(place: u32, piece: &[u8], want: u32) -> Result<(), Fail> {
 fn zeros_are_no_root() -> Result<(), Fail> {
     let mut bytes = [0; 5632];
     let mut device = WriteMemory::new(&mut bytes, Budget::Endless, RootTear::All);
-    check_eq(refusal_of(open(&mut device)), 23)
+    check_eq(refusal_of(open(&mut device)), no_root())
 }
 
 #[test]
 fn no_sector_is_out_of_range() -> Result<(), Fail> {
     let mut bytes = [0; 511];
     let mut device = WriteMemory::new(&mut bytes, Budget::Endless, RootTear::All);
-    check_eq(refusal_of(open(&mut device)), 11)
+    check_eq(refusal_of(open(&mut device)), Some(Report::bare(11)))
 }
 
 /// Each of the 504 bytes behind the two words must be zero.
 #[test]
 fn a_byte_behind_the_words() -> Result<(), Fail> {
     for place in 8..512 {
-        expect_open(place, &[1], 23)?;
+        expect_open(place, &[1], no_root())?;
     }
     Ok(())
 }
@@ -51,16 +56,22 @@ fn a_byte_behind_the_words() -> Result<(), Fail> {
 /// The area is 0 or 1, the length from 2,048 to 2,560.
 #[test]
 fn areas_and_lengths() -> Result<(), Fail> {
-    let areas = [(0, 0), (1, 0), (2, 23), (256, 23), (16777216, 23)];
+    let areas = [
+        (0, None),
+        (1, None),
+        (2, no_root()),
+        (256, no_root()),
+        (16777216, no_root()),
+    ];
     for (area, want) in areas {
         expect_open(0, &u32::to_le_bytes(area), want)?;
     }
     let lengths = [
-        (2047, 23),
-        (2048, 0),
-        (2560, 0),
-        (2561, 23),
-        (4294967295, 23),
+        (2047, no_root()),
+        (2048, None),
+        (2560, None),
+        (2561, no_root()),
+        (4294967295, no_root()),
     ];
     for (len, want) in lengths {
         expect_open(4, &u32::to_le_bytes(len), want)?;

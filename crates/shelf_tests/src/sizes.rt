@@ -26,6 +26,7 @@ fn expect_fit(key: usize, data: usize) -> Result<(), Fail> {
     )?;
     let finished = done(draft.finish(&mut device, &entries))?;
     let live = done(finished.publish(&mut device))?.live();
+    // By its parts, since an extent has no equality.
     check_eq((live.start, live.len), (3072, 2560))?;
     expect_data(&mut device, live, key, &[data])
 }

@@ -95,14 +95,7 @@ fn a_list_that_is_too_short_stays(rt: HostRuntime) {
 }
 
 fn tells(fault: TextFault, number: u32, place: u64) -> Result<(), Fail> {
-    check_eq(
-        Report::from(fault),
-        Report {
-            number,
-            table: 256,
-            place,
-        },
-    )
+    check_eq(Report::from(fault), Report::placed(number, place))
 }
 
 #[test]

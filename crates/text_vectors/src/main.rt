@@ -92,14 +92,16 @@ fn compared<'a>(rt: &HostRuntime, text: &'a [u8], file: &'a [u8]) -> anyhow::Res
     Ok(counted)
 }
 
+/// The records without their places.
+// No `From`: neither `records` nor `text` rests on the other, and this program owns neither type.
 fn lent<'a>(rt: &HostRuntime, records: &[PlacedRecord<'a>]) -> anyhow::Result<Vec<LentRecord<'a>>> {
-    let mut list = Vec::new(rt.alloc());
-    for record in records {
-        list.push(LentRecord {
+    let list = records
+        .iter()
+        .map(|record| LentRecord {
             key: record.key,
             data: record.data,
-        })?;
-    }
+        })
+        .collect(rt.alloc())?;
     Ok(list)
 }
 
@@ -183,6 +185,8 @@ fn alone(rt: &HostRuntime, name: &str) -> anyhow::Result<()> {
     }
 }
 
+/// How many records a file has, and how many bytes of keys and data.
+// As `tally` of `text` does with a reader of its own; `records` and `text` do not rest on each other.
 fn counted(file: &[u8]) -> Result<Tally, FileFault> {
     let mut reader = RecordReader::new(file);
     let mut records = 0usize;
