@@ -5,6 +5,7 @@ use auditing::auditing::audit;
 use building::entries::Entry;
 use checks::check_eq;
 use faults::report::Report;
+use file::extents::Extent;
 use memory::writing::{Budget, RootTear};
 use shelf::formatting::format;
 use shelf::opening::open;
@@ -64,11 +65,9 @@ fn expect_broken(scribbled: &[Entry; 3], want: Report) -> Result<(), Fail> {
         return Err(Fail::new("the draft is gone"));
     };
     let live = finished.abandon().live();
-    // By its parts, since an extent has no equality.
-    check_eq((live.start, live.len), (3072, 2048 + 12 + 16))?;
+    check_eq(live, Extent::new(3072, 2048 + 12 + 16)?)?;
     expect_data(&mut device, live, b"a", &[b"old"])?;
-    let reopened = open(&mut device)?.live();
-    check_eq((reopened.start, reopened.len), (live.start, live.len))?;
+    check_eq(open(&mut device)?.live(), live)?;
     check_eq(audit(&mut device, live)?.records, 1)
 }
 

@@ -3,6 +3,7 @@
 use crate::calls::*;
 use checks::check_eq;
 use faults::report::Report;
+use file::extents::Extent;
 use memory::writing::{Budget, RootTear, WriteMemory};
 use shelf::fault::ShelfFault;
 use shelf::formatting::format;
@@ -26,8 +27,7 @@ fn expect_fit(key: usize, data: usize) -> Result<(), Fail> {
     )?;
     let finished = done(draft.finish(&mut device, &entries))?;
     let live = done(finished.publish(&mut device))?.live();
-    // By its parts, since an extent has no equality.
-    check_eq((live.start, live.len), (3072, 2560))?;
+    check_eq(live, Extent::new(3072, 2560)?)?;
     expect_data(&mut device, live, key, &[data])
 }
 
@@ -77,7 +77,7 @@ fn nine_sectors_take_no_record() -> Result<(), Fail> {
     let mut device = WriteMemory::new(&mut bytes, Budget::Endless, RootTear::All);
     let shelf = format(&mut device)?;
     let live = shelf.live();
-    check_eq((live.start, live.len), (512, 2048))?;
+    check_eq(live, Extent::new(512, 2048)?)?;
     let mut entries = [BLANK];
     let draft = refused(
         shelf.begin().add(&mut device, &mut entries, b"", b""),
@@ -85,6 +85,6 @@ fn nine_sectors_take_no_record() -> Result<(), Fail> {
     )?;
     let finished = done(draft.finish(&mut device, &[]))?;
     let live = done(finished.publish(&mut device))?.live();
-    check_eq((live.start, live.len), (2560, 2048))?;
+    check_eq(live, Extent::new(2560, 2048)?)?;
     expect_data(&mut device, live, b"", &[])
 }
