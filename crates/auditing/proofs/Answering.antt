@@ -135,7 +135,7 @@ module _ (m : Meaning) (e : Extent) where
       let q : file_report f ≡ file_report g = ap report_of (one_verdict (file m e) (refused (file_report f)) (refused (file_report g)) h k) in
       sym (fault_back f (rule_number (file m e) (refused (file_report f)) h)) ∙ ap fault_of q ∙ fault_back g (rule_number (file m e) (refused (file_report g)) k)
 
-  only_answer : (r s : Result Counts FileFault) → Audited m e r → Audited m e s → s ≡ r
+  pub only_answer : (r s : Result Counts FileFault) → Audited m e r → Audited m e s → s ≡ r
   unfolding counts_of
   only_answer (Ok c) (Ok d) h k = ap (λ (v : Verdict). Ok (counts_of v)) (one_verdict (file m e) (verdict (Ok d)) (verdict (Ok c)) k.1 h.1)
   only_answer (Ok c) (Err g) h k =

@@ -1,5 +1,5 @@
 -- Records that a reader walks over, and how long their lines are.
-use Rattle.std.proofs.Common.{◌≡◌, ℕ, ◌+◌, ◌*◌, ◌^◌, ◌<◌, ◌≤◌, List, [], ◌∷◌, ◌++◌, length, sym, refl, ap, ◌∙◌, subst, append_assoc, arith, length-append}
+use Rattle.std.proofs.Common.{◌≡◌, ℕ, ◌+◌, ◌*◌, ◌^◌, ◌<◌, ◌≤◌, List, [], ◌∷◌, ◌++◌, length, sym, refl, ap, ◌∙◌, subst, append_assoc, arith, length-append, take-append-drop}
 use Rattle.std.specs.List.{flat_map, AllByRecursion}
 use Rattle.std.proofs.lemmas.List.{append-nil, flat_map_more}
 use Rattle.std.proofs.lemmas.Fmt.{length-decimal-le}
@@ -13,7 +13,7 @@ use Rattle.text.proofs.Counting.{length_line}
 use Rattle.text_writer.specs.Sheets.{Adds}
 use Rattle.text_writer.specs.declared.sheet.Sheet.{Sheet}
 use Rattle.text_writer.proofs.Back.{text_append, text_joined}
-use Rattle.text_writer.proofs.Laying.{both, nothing}
+use Rattle.text_writer.proofs.Laying.{both}
 use Rattle.dumping.specs.Walks.{Ahead, Standing}
 
 -- i of the n records of f are met, and the reader stands at p
@@ -150,6 +150,9 @@ pub record Written (f : List ℕ) (n i p : ℕ) (s t : Sheet) : Type 0 where
   pub walked : Walked f n i p met
   pub fits : s.written + length (text (met ++ walked.todo)) ≤ length s.buffer.now
   pub adds : Adds (flat_map line met) s t
+
+nothing : (s : Sheet) → Adds [] s s
+nothing s = record { same_reference = refl; written = omega arith; after = sym (take-append-drop s.written s.buffer.now); long = refl }
 
 pub unwritten : (f : List ℕ) (n : ℕ) (rs : List Record) (s : Sheet) → Standing f rs → n ≡ length rs → s.written + length (text rs) ≤ length s.buffer.now → Written f n 0 2048 s s
 unfolding begun

@@ -6,15 +6,14 @@ use Rattle.byte_lists.proofs.Parts.{part_of_front}
 use Rattle.faults.specs.declared.device.DeviceFault.{DeviceFault}
 use Rattle.device.specs.Meanings.{Meaning, endless}
 use Rattle.cdb.specs.Records.{Record}
-use Rattle.cdb.specs.Rules.{Lawful}
 use Rattle.memory.specs.Memories.{memory, fitting}
 use Rattle.building.specs.declared.entries.Entry.{Entry}
-use Rattle.text.specs.Texts.{text, TextOf}
+use Rattle.text.specs.Texts.{TextOf}
 use Rattle.making.specs.declared.fault.MakeFault.{MakeFault}
 use Rattle.making.specs.declared.fault.MakeFault.TheVariants.{Text, Entries, Long, File}
 use Rattle.making.specs.Sizes.{made_length}
 use Rattle.making.specs.Makes.{MakesFile, Noted}
-use Rattle.making.specs.Laws.{Cause, off, ran_out, bad, GivesBack, GivesTheTextBack, RefusedForCause}
+use Rattle.making.specs.Laws.{Cause, off, ran_out, bad, GivesBack, GivesText, GivesTheTextBack, RefusedForCause}
 use Rattle.making.specs.InMemory.{FileOf, MemoryRefused}
 use Rattle.making.proofs.Noting.{entries_long}
 
@@ -56,6 +55,6 @@ module _ (bytes : List ℕ) (es : List Entry) (t : List ℕ) (n : Meaning) (fs :
           lawful = h.3.lawful;
           tabled = h.3.tabled;
           back = subst (λ (q : ℕ). GivesBack (part n.bytes 0 q) rs) h.2 (back.0 rs h.1.text);
-          text = subst (λ (q : ℕ). (ss : List Record) → Lawful (part n.bytes 0 q) ss → text ss ≡ t) h.2 back.1;
+          gives = subst (λ (q : ℕ). GivesText t (part n.bytes 0 q)) h.2 back.1;
         } in
         (rs, h.1.text, subst (FileOf t rs) is made_of, h.4)

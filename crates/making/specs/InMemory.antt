@@ -6,22 +6,21 @@ use Rattle.cdb.specs.Rules.{Lawful}
 use Rattle.memory.specs.Memories.{fitting}
 use Rattle.building.specs.declared.entries.Entry.{Entry}
 use Rattle.building.specs.Entries.{Tabled}
-use Rattle.text.specs.Texts.{text, TextOf}
+use Rattle.text.specs.Texts.{TextOf}
 use Rattle.text.specs.Wholes.{Tallies}
 use Rattle.making.specs.declared.fault.MakeFault.{MakeFault}
 use Rattle.making.specs.declared.fault.MakeFault.TheVariants.{Text, Entries, Long, File}
 use Rattle.making.specs.Sizes.{end_of, made_length}
 use Rattle.making.specs.Makes.{entries_from, Noted}
-use Rattle.making.specs.Laws.{GivesBack}
+use Rattle.making.specs.Laws.{GivesBack, GivesText}
 
--- the file of these records: lawful, with tables that are made of their entries in order; it gives the records back, and their text is the one that it
--- was made from
+-- the file of these records: lawful, with tables that are made of their entries in order; it gives the records back, and the text that it was made from
 pub record FileOf (t : List ℕ) (rs : List Record) (f : List ℕ) : Type 0 where
   pub long : length f ≡ made_length rs
   pub lawful : Lawful f rs
   pub tabled : Tabled f (end_of rs) (entries_from 2048 rs)
   pub back : GivesBack f rs
-  pub text : (ss : List Record) → Lawful f ss → text ss ≡ t
+  pub gives : GivesText t f
 
 -- refused in the order 10, 24, 27, with no entry changed; memory itself refuses nothing
 abbrev pub MemoryRefused : List ℕ → List Entry → List ℕ → MakeFault → List Entry → Type 0

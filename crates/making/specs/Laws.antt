@@ -1,5 +1,5 @@
 -- What a made file gives back, and what a device's refusal is owed to.
-use Rattle.std.specs.Prelude.{◌≡◌, ℕ, ◌*◌, true, false, List, map, ◌++◌, Ok, Err, Option, Result}
+use Rattle.std.specs.Prelude.{◌≡◌, ℕ, ◌*◌, ◌≤◌, true, false, List, map, ◌++◌, length, take, Ok, Err, Option, Result}
 use Rattle.byte_lists.specs.Bytes.{part}
 use Rattle.faults.specs.declared.device.DeviceFault.{DeviceFault}
 use Rattle.faults.specs.declared.device.DeviceFault.TheVariants.{Power, Bad}
@@ -17,6 +17,9 @@ use Rattle.lookup_runs.specs.Laws.{Gives, wrote}
 use Rattle.records.specs.declared.placed.PlacedRecord.{PlacedRecord}
 use Rattle.records.specs.Readings.{record_of, Hands}
 use Rattle.records.specs.Laws.{Calls, told, first}
+use Rattle.c_calls.specs.InMemory.{Fits}
+use Rattle.dumping.specs.declared.fault.DumpFault.{DumpFault}
+use Rattle.dumping.specs.Dumps.{Dumps}
 use Rattle.writing.specs.Runs.{Touches, Counted, at_place}
 use Rattle.text.specs.Texts.{text, TextOf}
 use Rattle.making.specs.declared.fault.MakeFault.{MakeFault}
@@ -33,10 +36,17 @@ pub record GivesBack (f : List ℕ) (rs : List Record) : Type 0 where
   pub lookups : (m : Meaning) (e : Extent) (key : List ℕ) (c c' : Cursor) (b b' : List ℕ) (ks : List calls.Call) (es : List runs.Event)
       → Readable m e → file m e ≡ f → Start m e key (Ok c) → runs.Run m e key c b ks es c' b' → Gives rs key es × (b' ≡ wrote es b)
 
--- a file that is made from a text gives the text's records back, and no text but this one is that of its records
+-- a file gives this text: it is the text of its records, whatever these are, and the dump of the file is this text, byte for byte, wherever in memory the
+-- file lies, and into whatever buffer that has room
+pub record GivesText (t f : List ℕ) : Type 0 where
+  pub text : (ss : List Record) → Lawful f ss → text ss ≡ t
+  pub dump : (xs : List ℕ) (len room : ℕ) (b : List ℕ) (r : Result ℕ DumpFault) (c : List ℕ)
+      → Fits xs len → take len xs ≡ f → length t ≤ room → Dumps xs len room b r c → (r ≡ Ok (length t)) × (take (length t) c ≡ t)
+
+-- a file that is made from a text gives the text's records back, and the text
 abbrev pub GivesTheTextBack : List ℕ → Result ℕ MakeFault → Meaning → Type 0
 GivesTheTextBack t (Ok len) n =
-    ((rs : List Record) → TextOf t rs → GivesBack (part n.bytes 0 len) rs) × ((ss : List Record) → Lawful (part n.bytes 0 len) ss → text ss ≡ t)
+    ((rs : List Record) → TextOf t rs → GivesBack (part n.bytes 0 len) rs) × GivesText t (part n.bytes 0 len)
 GivesTheTextBack t (Err x) n = Unit {0}
 
 -- why a device refuses to take so many bytes from a place on: power was off, or went as the writes ran out, or one of the sectors is bad, which is named

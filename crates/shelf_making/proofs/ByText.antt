@@ -1,14 +1,15 @@
 -- The laws of a make, for the records of a text.
-use Rattle.std.proofs.Common.{ℕ, List, length, Ok, Err, Result, sym, ap, ◌∙◌, subst, inl, inr}
+use Rattle.std.proofs.Common.{ℕ, List, length, Ok, Err, Result, subst, inl, inr}
 use Rattle.device.specs.Meanings.{Meaning, Whole}
 use Rattle.cdb.specs.Records.{Record}
 use Rattle.building.specs.declared.entries.Entry.{Entry}
 use Rattle.text.specs.declared.fault.TextFault.{TextFault}
 use Rattle.text.specs.declared.fault.TextFault.TheVariants.{Malformed, Short, Long}
-use Rattle.text.specs.Texts.{text, TextOf}
+use Rattle.text.specs.Texts.{TextOf}
 use Rattle.text.specs.Wholes.{Tallies}
 use Rattle.text.proofs.Filling.{one_text}
 use Rattle.shelf.specs.declared.states.Shelf as states
+use Rattle.making.proofs.Backward.{gives_text}
 use Rattle.shelf_making.specs.declared.fault.MakeRefused.{MakeRefused}
 use Rattle.shelf_making.specs.Makes.{MakesText}
 use Rattle.shelf_making.specs.Laws.{KeepsLive, KeepsLiveByText, GivesTheTextBack, RefusedForCause, RefusedForCauseByText}
@@ -35,4 +36,4 @@ gives_the_text_back m n s es fs t (Err x) whole k = tt
 gives_the_text_back m n s es fs t (Ok z) whole (inl k) = absurd (let e = k.is in cc)
 gives_the_text_back m n s es fs t (Ok z) whole (inr (rs, a, k)) =
     let made = keeps_live m n s es fs rs (Ok z) whole k in
-    λ ss law. ap text (made.back.only ss law) ∙ sym a.1
+    gives_text t _ rs a made.root.lawful made.back

@@ -7,7 +7,7 @@ use Rattle.device.specs.Meanings.{Meaning, is_bad}
 use Rattle.cdb.specs.Records.{Record}
 use Rattle.cdb.specs.Rules.{Lawful}
 use Rattle.writing.specs.Runs.{Touches, Outside, Keeps, at_place}
-use Rattle.text.specs.Texts.{text, TextOf}
+use Rattle.text.specs.Texts.{TextOf}
 use Rattle.areas.specs.Geometry.{other}
 use Rattle.shelf.specs.declared.fault.ShelfFault.{ShelfFault}
 use Rattle.shelf.specs.declared.fault.ShelfFault.TheVariants.{File, Size, NoRoot, Entries, Full, Small}
@@ -15,7 +15,7 @@ use Rattle.shelf.specs.declared.states.Shelf as states
 use Rattle.shelf.specs.States.{Live, live_of, file_start, file_room}
 use Rattle.history.specs.Laws.{Rooted, live_file}
 use Rattle.making.specs.Sizes.{made_length}
-use Rattle.making.specs.Laws.{GivesBack, Cause}
+use Rattle.making.specs.Laws.{GivesBack, GivesText, Cause}
 use Rattle.shelf_making.specs.declared.fault.ShelfMakeFault.{ShelfMakeFault}
 use Rattle.shelf_making.specs.declared.fault.ShelfMakeFault.TheVariants as make
 use Rattle.shelf_making.specs.declared.fault.MakeRefused.{MakeRefused}
@@ -66,9 +66,9 @@ KeepsLive m s entries rs (Err x) n = Unchanged m (live_of s) n x ⊎ CutAtRoot m
 abbrev pub KeepsLiveByText : Meaning → states.Shelf → ℕ → List ℕ → Result states.Shelf MakeRefused → Meaning → Type 0
 KeepsLiveByText m s entries t r n = (rs : List Record) → TextOf t rs → KeepsLive m s entries rs r n
 
--- the text of the live file's records, whatever they are, is the text that it was made from
+-- the live file gives the text that it was made from
 abbrev pub GivesTheTextBack : List ℕ → Result states.Shelf MakeRefused → Meaning → Type 0
-GivesTheTextBack t (Ok s) n = (ss : List Record) → Lawful (live_file n (live_of s)) ss → text ss ≡ t
+GivesTheTextBack t (Ok s) n = GivesText t (live_file n (live_of s))
 GivesTheTextBack t (Err x) n = Unit {0}
 
 -- why the shelf refuses: 11 if the device has another size, 24 if there are fewer entries than records, 25 if the file is longer than the area,
