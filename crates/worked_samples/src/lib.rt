@@ -1,0 +1,4 @@
+//! All worked samples, as one fact.
+#![tactic(auto)]
+
+pub mod worked;
