@@ -15,7 +15,7 @@ use Rattle.history.specs.Histories.{History}
 use Rattle.playing.specs.declared.steps.Step.{Step}
 use Rattle.playing.specs.declared.steps.Outcome.{Outcome}
 use Rattle.playing.specs.declared.running.Ran.{Ran as Ran'}
-use Rattle.playing.specs.Steps.{Shows, Looked}
+use Rattle.playing.specs.Steps.{Turning, Shows, Looked}
 use Rattle.playing.specs.Runs.{Ran}
 
 -- these events are a history, which has left this state and this device
@@ -27,20 +27,24 @@ abbrev pub GoingIsHistory : Option (List Event) → State → Meaning → Type 0
 GoingIsHistory None s m = Unit {0}
 GoingIsHistory (Some h) s m = IsHistory h s m
 
--- steps were made one after the other, and answered this; what has been going on since the last format that was done is a history
-pub record RanTo {T : Type 0} (m o : Meaning) (es : List Entry) (ks : List (Step T)) (rs : List Outcome) (n p : Meaning) (s : State) (fs : List Entry) : Type 0 where
-  pub events : Option (List Event)
-  pub ran : Ran m o es ks rs events n p s fs
-  pub history : GoingIsHistory events s n
+-- in every run, after each step, what has been going on since the last format that was done is a history
+abbrev pub RunsAreHistories : {T : Type 0} → Turning T → Turning T → Type 0
+RunsAreHistories {T} inside across =
+    (m o : Meaning) (es : List Entry) (ks : List (Step T)) (rs : List Outcome) (h : Option (List Event)) (n p : Meaning) (s : State) (fs : List Entry)
+    → Ran inside across m o es ks rs h n p s fs → GoingIsHistory h s n
+
+-- steps were made one after the other, and answered this, whatever was going on then
+abbrev pub RanTo : {T : Type 0} → Turning T → Turning T → Meaning → Meaning → List Entry → List (Step T) → List Outcome → Meaning → Meaning → State → List Entry → Type 0
+RanTo inside across m o es ks rs n p s fs = (h : Option (List Event)) × Ran inside across m o es ks rs h n p s fs
 
 -- so where memory ran out: the steps up to some step were made
-abbrev pub RanSome : {T : Type 0} → Meaning → Meaning → List Entry → List (Step T) → Meaning → List Entry → Type 0
-RanSome m o es ks p fs = (k : ℕ) × (rs : List Outcome) × (n : Meaning) × (s : State) × RanTo m o es (take k ks) rs n p s fs
+abbrev pub RanSome : {T : Type 0} → Turning T → Turning T → Meaning → Meaning → List Entry → List (Step T) → Meaning → List Entry → Type 0
+RanSome inside across m o es ks p fs = (k : ℕ) × (rs : List Outcome) × (n : Meaning) × (s : State) × RanTo inside across m o es (take k ks) rs n p s fs
 
 -- what a run answers: all steps were made, and the log has what each answered; or memory ran out
-abbrev pub Runs : {D T : Type 0} → (D → Meaning) → Meaning → Meaning → List Entry → List (Step T) → Result (Ran' D) AllocError → Meaning → List Entry → Type 0
-Runs meaning m o es ks (Ok r) p fs = RanTo m o es ks r.log.items (meaning r.device) p r.state fs
-Runs meaning m o es ks (Err x) p fs = RanSome m o es ks p fs
+abbrev pub Runs : {D T : Type 0} → Turning T → Turning T → (D → Meaning) → Meaning → Meaning → List Entry → List (Step T) → Result (Ran' D) AllocError → Meaning → List Entry → Type 0
+Runs inside across meaning m o es ks (Ok r) p fs = RanTo inside across m o es ks r.log.items (meaning r.device) p r.state fs
+Runs inside across meaning m o es ks (Err x) p fs = RanSome inside across m o es ks p fs
 
 -- what a lookup answered is these data
 abbrev pub IsData : Result (Vec (Vec ℕ)) FileFault → List (List ℕ) → Type 0

@@ -56,7 +56,7 @@ fn live_extent(state: &State) -> Option<Extent>
 
 /// Formats the device.
 fn make_format<D: Bench>(stage: Stage<D>) -> Made<D>
-    ensures made { MadeBy {T = D.Turn} D.Device.meaning stage step.Format result }
+    ensures made { MadeBy D.Bench.turns D.Bench.starts D.Device.meaning stage step.Format result }
 {
     let Stage { mut device, state } = stage;
     drop(state);
@@ -72,7 +72,7 @@ fn make_format<D: Bench>(stage: Stage<D>) -> Made<D>
 
 /// Makes a call on the device.
 fn make_call<D: Bench>(stage: Stage<D>, entries: &mut [Entry], call: Call<'_>) -> Made<D>
-    ensures made { MadeHere {T = D.Turn} D.Device.meaning stage entries.old (step.Call call.entry) result entries.new }
+    ensures made { MadeHere D.Bench.turns D.Bench.starts D.Device.meaning stage entries.old (step.Call call.entry) result entries.new }
 {
     let Stage { mut device, state } = stage;
     let played = play(&mut device, entries, state, call);
@@ -98,7 +98,7 @@ fn make_elsewhere<D: Bench, E: WritableDevice>(
     entries: &mut [Entry],
     call: Call<'_>,
 ) -> Made<D>
-    ensures made { Makes {T = D.Turn} D.Device.meaning stage (E.Device.meaning other.old) entries.old (step.Elsewhere call.entry) result (E.Device.meaning other.new) entries.new }
+    ensures made { Makes D.Bench.turns D.Bench.starts D.Device.meaning stage (E.Device.meaning other.old) entries.old (step.Elsewhere call.entry) result (E.Device.meaning other.new) entries.new }
 {
     if !goes_elsewhere(&stage.device, other, call) {
         return Made {
@@ -117,7 +117,7 @@ fn make_get<D: Bench + Drop>(
     stage: Stage<D>,
     key: &[u8],
 ) -> Result<Made<D>, AllocError>
-    ensures made { MadeOr {T = D.Turn} D.Device.meaning stage (step.Get key.entry) result }
+    ensures made { MadeOr D.Bench.turns D.Bench.starts D.Device.meaning stage (step.Get key.entry) result }
 {
     let Some(extent) = live_extent(&stage.state) else {
         return Ok(Made {
@@ -135,7 +135,7 @@ fn make_get<D: Bench + Drop>(
 
 /// Something becomes of the device.
 fn make_turn<D: Bench>(stage: Stage<D>, turn: &D::Turn) -> Made<D>
-    ensures made { MadeBy D.Device.meaning stage (step.Turn turn.now) result }
+    ensures made { MadeBy D.Bench.turns D.Bench.starts D.Device.meaning stage (step.Turn turn.now) result }
 {
     let Stage { device, state } = stage;
     let turned = device.turn(turn);
@@ -144,7 +144,7 @@ fn make_turn<D: Bench>(stage: Stage<D>, turn: &D::Turn) -> Made<D>
 
 /// The mount ends, and the device is mounted again.
 fn make_remount<D: Bench>(stage: Stage<D>, turn: &D::Turn) -> Made<D>
-    ensures made { MadeBy D.Device.meaning stage (step.Remount turn.now) result }
+    ensures made { MadeBy D.Bench.turns D.Bench.starts D.Device.meaning stage (step.Remount turn.now) result }
 {
     let Stage { device, state } = stage;
     drop(state);
@@ -169,7 +169,7 @@ pub(crate) fn make<D: Bench + Drop, E: WritableDevice>(
     entries: &mut [Entry],
     step: &Step<'_, D::Turn>,
 ) -> Result<Made<D>, AllocError>
-    ensures made { MakesOr D.Device.meaning stage (E.Device.meaning other.old) entries.old step.now result (E.Device.meaning other.new) entries.new }
+    ensures made { MakesOr D.Bench.turns D.Bench.starts D.Device.meaning stage (E.Device.meaning other.old) entries.old step.now result (E.Device.meaning other.new) entries.new }
 {
     match step {
         Step::Format => Ok(make_format(stage)),

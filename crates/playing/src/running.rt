@@ -3,7 +3,7 @@
 ghost use Rattle.std.specs.Prelude.{◌≡◌};
 ghost use Rattle.history.specs.Laws.{HistoriesKeepPublished, OnlyPublicationsChangeLive, OpenFindsTheShelf};
 ghost use Rattle.history.specs.Lookups.{LookupsGivePublished};
-ghost use Rattle.playing.specs.Laws.{GetsGivePublished, Runs};
+ghost use Rattle.playing.specs.Laws.{GetsGivePublished, Runs, RunsAreHistories};
 
 use crate::bench::Bench;
 use crate::laws::know_gets;
@@ -31,7 +31,8 @@ pub fn run<D: Bench + Drop, E: WritableDevice>(
     entries: &mut [Entry],
     steps: &[Step<'_, D::Turn>],
 ) -> Result<Ran<D>, AllocError>
-    ensures runs { Runs D.Device.meaning (D.Device.meaning device) (E.Device.meaning other.old) entries.old steps.now result (E.Device.meaning other.new) entries.new }
+    ensures runs { Runs D.Bench.turns D.Bench.starts D.Device.meaning (D.Device.meaning device) (E.Device.meaning other.old) entries.old steps.now result (E.Device.meaning other.new) entries.new }
+    ensures histories { RunsAreHistories D.Bench.turns D.Bench.starts }
     ensures keep { HistoriesKeepPublished }
     ensures stay { OnlyPublicationsChangeLive }
     ensures opens { OpenFindsTheShelf }

@@ -1,3 +1,4 @@
 pub mod Beds
+pub mod Turning
 pub mod Replays
 pub mod Runs

@@ -10,6 +10,7 @@ use Rattle.playing.specs.declared.steps.Outcome.{Outcome}
 use Rattle.playing.specs.Laws.{RanTo}
 use Rattle.script.specs.declared.answer.Answer.{Answer}
 use Rattle.script.specs.declared.whole.Script.{Script}
+use Rattle.replaying.specs.Beds.{Turns, Starts}
 use Rattle.replaying.specs.Replays.{answer_for, steps_for}
 
 -- so many sectors of zero bytes, with power on and endless writes
@@ -20,7 +21,7 @@ zeros n = memory (replicate (n * 512) 0) true endless
 abbrev pub unwritten : ℕ → List Entry
 unwritten n = replicate n (record { hash = 0; place = 0 })
 
--- the steps of the script were made one after the other on zero bytes, and each is told what it answered; what went on since the last format is a history
+-- the steps of the script were made one after the other on zero bytes, and each is told what it answered
 pub record Replayed (s : Script) (answers : List Answer) : Type 0 where
   pub log : List Outcome
   pub told : answers ≡ map answer_for log
@@ -28,7 +29,7 @@ pub record Replayed (s : Script) (answers : List Answer) : Type 0 where
   pub other : Meaning
   pub state : State
   pub entries : List Entry
-  pub ran : RanTo (zeros s.sizes.sectors) (memory [] true endless) (unwritten s.sizes.entries) (steps_for s.lines.items) log device other state entries
+  pub ran : RanTo Turns Starts (zeros s.sizes.sectors) (memory [] true endless) (unwritten s.sizes.entries) (steps_for s.lines.items) log device other state entries
 
 -- the answers of the script, unless memory runs out
 abbrev pub Replays : Script → Result (Vec Answer) AllocError → Type 0

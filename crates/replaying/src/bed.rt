@@ -1,8 +1,7 @@
 //! The device of a script.
 
-ghost use Rattle.shelf.specs.Drafts.{Between};
-ghost use Rattle.history.specs.Histories.{Remounts};
-ghost use Rattle.replaying.specs.Beds.{bed_meaning, cache_meaning, Marks, Starts, Turns};
+ghost use Rattle.replaying.specs.Beds.{bed_meaning, cache_meaning, Marks, SetsTear, Starts, Turns};
+ghost use Rattle.replaying.specs.Turning.{starts_across, turns_inside};
 
 use device::device::{Device, WritableDevice};
 use faults::device::DeviceFault;
@@ -51,22 +50,20 @@ impl<D: WritableDevice> WritableDevice for Bed<D> {
     }
 }
 
-/// Marks a sector, and tells a refusal as it is printed.
-fn mark(cache: &mut CacheOverMarks<'_>, sector: u32) -> Result<(), Report>
-    ensures { Marks (cache_meaning cache.old) sector result (cache_meaning cache.new) }
-{
-    match cache.mark(sector) {
-        Ok(()) => Ok(()),
-        Err(fault) => Err(Report::from(fault)),
-    }
-}
-
 impl<'a> Bench for Bed<CacheOverMarks<'a>> {
     type Turn = Turn;
 
+    ghost turns = { Turns };
+
+    ghost starts = { Starts };
+
+    ghost inside = { turns_inside };
+
+    ghost across = { starts_across };
+
     fn turn(self, turn: &Turn) -> Turned<Bed<CacheOverMarks<'a>>>
-        ensures between { Between (bed_meaning self.entry) (bed_meaning result.device) }
-        ensures turns { Turns (bed_meaning self.entry) turn.now result.answer (bed_meaning result.device) }
+        ensures turns { Turns turn.now (bed_meaning self.entry) result.answer (bed_meaning result.device) }
+        ensures tear { SetsTear turn.now result.device }
     {
         let Bed(mut cache) = self;
         match turn {
@@ -89,8 +86,8 @@ impl<'a> Bench for Bed<CacheOverMarks<'a>> {
     }
 
     fn remount(self, turn: &Turn) -> Turned<Bed<CacheOverMarks<'a>>>
-        ensures remounts { Remounts (bed_meaning self.entry) (bed_meaning result.device) }
-        ensures starts { Starts (bed_meaning self.entry) turn.now result.answer (bed_meaning result.device) }
+        ensures starts { Starts turn.now (bed_meaning self.entry) result.answer (bed_meaning result.device) }
+        ensures tear { SetsTear turn.now result.device }
     {
         if let Turn::Power = turn {
             let Bed(cache) = self;
@@ -100,5 +97,15 @@ impl<'a> Bench for Bed<CacheOverMarks<'a>> {
             };
         }
         self.turn(turn)
+    }
+}
+
+/// Marks a sector, and tells a refusal as it is printed.
+fn mark(cache: &mut CacheOverMarks<'_>, sector: u32) -> Result<(), Report>
+    ensures { Marks (cache_meaning cache.old) sector result (cache_meaning cache.new) }
+{
+    match cache.mark(sector) {
+        Ok(()) => Ok(()),
+        Err(fault) => Err(Report::from(fault)),
     }
 }

@@ -30,5 +30,5 @@ pub fn replay(alloc: Global, script: &Script<'_>) -> Result<Vec<Answer>, AllocEr
     let mut none = [0u8; 0];
     let mut other = WriteMemory::new(&mut none, Budget::Endless, RootTear::All);
     let ran = run(alloc, Bed(cache), &mut other, &mut entries, &steps)?;
-    Ok(answers_of(alloc, ran.log)?)
+    answers_of(alloc, ran.log)
 }

@@ -1,6 +1,6 @@
 use Rattle.std.proofs.Common.{◌+◌, ◌∷◌, [], ◌++◌, sym}
 use Rattle.std.proofs.lemmas.Result.{err_from_is_err_and}
-use Rattle.playing.proofs.Going.{ran_none, ran_more}
+use Rattle.playing.proofs.Going.{ran_none, ran_more, runs_are_histories}
 use Rattle.playing.proofs.running.run.Goals as goal
 
 pub loop-step-init : goal.loop-step-init
@@ -18,3 +18,12 @@ returns-in_err-push-clause-runs g c =
 
 pub loop-step-preserved : goal.loop-step-preserved
 loop-step-preserved g c = rw c.in_ok-push.ensures.items (ran_more c.args.steps.now c.loop-step.step-index c.step-item.result c.loop-step-test.true (sym c.step-item.is) c.loop-step.invariant c.in_ok-made.ensures.made)
+
+pub returns-in_err-made-clause-histories : goal.returns-in_err-made-clause-histories
+returns-in_err-made-clause-histories g c = runs_are_histories _ _ g.D.Bench.inside g.D.Bench.across
+
+pub returns-in_err-push-clause-histories : goal.returns-in_err-push-clause-histories
+returns-in_err-push-clause-histories g c = runs_are_histories _ _ g.D.Bench.inside g.D.Bench.across
+
+pub returns-clause-histories : goal.returns-clause-histories
+returns-clause-histories g c = runs_are_histories _ _ g.D.Bench.inside g.D.Bench.across
