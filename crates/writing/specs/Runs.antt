@@ -46,7 +46,7 @@ pub record Completed (m : Meaning) (p : ℕ) (ys : List ℕ) (n : Meaning) : Typ
   pub good : (s : ℕ) → Touches p (length ys) s → is_bad m s ≡ false
   pub none : length ys ≡ 0 → n ≡ m
 
--- 22: stopped at the lowest bad sector that a run of len bytes touches, which is named by its first byte; the bytes before it were written
+-- 22: stopped at the lowest bad sector that a run of len bytes touches, which is named by its first byte; bytes of the run may have changed
 pub record Stopped (m : Meaning) (p len b : ℕ) (n : Meaning) : Type 0 where
   pub keeps : Keeps m (Outside p len) n
   pub power : n.power ≡ m.power
