@@ -3,11 +3,12 @@ use Rattle.std.proofs.Common.{◌≡◌, ℕ, ◌*◌, ◌<◌, ◌≤◌, Bool,
 use Rattle.std.proofs.lemmas.Bool.{eqb-true}
 use Rattle.byte_lists.specs.Bytes.{part, laid}
 use Rattle.faults.specs.declared.device.DeviceFault.{DeviceFault}
-use Rattle.device.specs.Meanings.{Meaning, Whole, Written}
+use Rattle.device.specs.Meanings.{Meaning, Whole, Written, is_bad}
 use Rattle.cdb.specs.Records.{Record}
 use Rattle.cdb.specs.Rules.{Lawful}
-use Rattle.writing.specs.Runs.{Keeps}
+use Rattle.writing.specs.Runs.{Keeps, Completed}
 use Rattle.writing.proofs.Keeping.{keeps_both, keeps_less}
+use Rattle.writing.proofs.Running.{piece_runs, bad_after}
 use Rattle.building.proofs.Slotted.{part_same}
 use Rattle.building.specs.declared.entries.Entry.{Entry}
 use Rattle.areas.specs.Geometry.{other}
@@ -72,6 +73,13 @@ module _ (m : Meaning) (s : states.Shelf) (d : Draft) (es : List Entry) (rs : Li
       let o : Keeps j (λ i. 512 ≤ i) n = root_keeps j n (next_root f) r (root_long (other f.live.root.area) f.made) (omega (arith, long, sectors, room)) t in
       keeps_both m j n _ _ _ kept o (λ i out. out.1) (λ i out. out.0)
 
+  -- the root was written, so its sector is good
+  root_good : (n : Meaning) → Written j 0 (next_root f) (Ok tt) n → is_bad m 0 ≡ false
+  root_good n t =
+      let size = root_long (other f.live.root.area) f.made in
+      let run : Completed j 0 (next_root f) n = piece_runs j 0 (next_root f) (Ok tt) n (omega (arith, size)) (omega (arith, size)) (omega (arith, size, long, sectors, room)) t in
+      sym (bad_after m j 0 kept.condition) ∙ run.good 0 (omega (arith, size), omega arith, omega (arith, size))
+
   -- the new root stands
   module _ (n : Meaning) (clear : Accepted j f) (same : n.sectors ≡ j.sectors) (bytes : n.bytes ≡ laid j.bytes 0 (next_root f)) where
     new_root : NewRoot l rs n (live_after f)
@@ -95,6 +103,7 @@ module _ (m : Meaning) (s : states.Shelf) (d : Draft) (es : List Entry) (rs : Li
         room = room;
         on = ready.on m s d es rs e k fs f j whole b w fin;
         good = ready.good m s d es rs e k fs f j whole b w fin;
+        root_good = root_good n p.1;
       }
 
   root_outside : (i : ℕ) → i < 512 → OutsideIdle l i

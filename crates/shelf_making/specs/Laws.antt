@@ -34,7 +34,7 @@ pub record NewRoot (l : Live) (rs : List Record) (n : Meaning) (k : Live) : Type
   pub lawful : Lawful (live_file n k) rs
 
 -- done: this file is the live file of the shelf that is given, and gives the records back; but for the root, only the area that was not live changed;
--- there was an entry for each record, the file fits the area, power was on, and no sector of the file is bad
+-- there was an entry for each record, the file fits the area, power was on, and neither a sector of the file nor that of the root is bad
 pub record Renewed (m : Meaning) (l : Live) (entries : ℕ) (rs : List Record) (n : Meaning) (s : states.Shelf) : Type 0 where
   pub root : NewRoot l rs n (live_of s)
   pub back : GivesBack (live_file n (live_of s)) rs
@@ -44,6 +44,7 @@ pub record Renewed (m : Meaning) (l : Live) (entries : ℕ) (rs : List Record) (
   pub room : made_length rs ≤ file_room l
   pub on : m.power ≡ true
   pub good : (i : ℕ) → Touches (file_start l) (made_length rs) i → is_bad m i ≡ false
+  pub root_good : is_bad m 0 ≡ false
 
 -- refused, and the shelf comes back as it was: root and live file are unchanged
 pub record Unchanged (m : Meaning) (l : Live) (n : Meaning) (x : MakeRefused) : Type 0 where
