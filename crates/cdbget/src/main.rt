@@ -17,24 +17,19 @@ fn main(rt: HostRuntime) -> ExitCode {
 
 fn run(rt: &HostRuntime) -> anyhow::Result<ExitCode> {
     let mut args = env::args(rt).context("the arguments are no text")?.skip(1);
-    let Some(key) = args.next() else {
+    let (Some(key), number, None) = (args.next(), args.next(), args.next()) else {
         bail!("usage: cdbget KEY [N]");
     };
-    let others = match args.next() {
+    let others = match number {
         None => 0,
         Some(text) => text
             .parse::<u32>()
             .context(format_args!("{text} is no number of records"))?,
     };
-    if args.next().is_some() {
-        bail!("usage: cdbget KEY [N]");
-    }
     let mut input = Vec::new(rt.alloc());
     rt.stdin().read_to_end(&mut input)?;
     let file = WholeFile::new(input)?;
-    let found = file
-        .get(key.as_bytes(), others)
-        .map_err(|fault| Refusal::new(fault))?;
+    let found = file.get(key.as_bytes(), others).map_err(Refusal::new)?;
     let Some(data) = found else {
         return Ok(ExitCode::FAILURE);
     };

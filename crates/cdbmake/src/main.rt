@@ -1,7 +1,7 @@
 //! Makes a cdb file from the text on standard input: `cdbmake FILE TMP` writes TMP and then renames it to FILE.
 #![tactic(auto)]
 
-use anyhow::{Context, anyhow};
+use anyhow::{Context, bail};
 use building::entries::Entry;
 use making::in_memory::make_in_memory;
 use making::sizes::file_size;
@@ -18,20 +18,18 @@ fn main(rt: HostRuntime) -> ExitCode {
 }
 
 fn run(rt: &HostRuntime) -> anyhow::Result<ExitCode> {
-    let mut words = env::args(rt)?.skip(1);
-    let (Some(file), Some(tmp), None) = (words.next(), words.next(), words.next()) else {
-        return Err(anyhow!("usage: cdbmake FILE TMP"));
+    let mut args = env::args(rt).context("the arguments are no text")?.skip(1);
+    let (Some(file), Some(tmp), None) = (args.next(), args.next(), args.next()) else {
+        bail!("usage: cdbmake FILE TMP");
     };
     let mut text = Vec::new(rt.alloc());
     rt.stdin()
         .read_to_end(&mut text)
         .context("reading standard input")?;
-    let size = file_size(&text).map_err(|fault| Refusal::new(fault))?;
+    let size = file_size(&text).map_err(Refusal::new)?;
     let mut memory = vec![in rt.alloc(); 0u8; size.memory()]?;
     let mut entries = vec![in rt.alloc(); Entry { hash: 0, place: 0 }; size.records]?;
-    let made = make_in_memory(&mut memory, &mut entries, &text).map_err(|fault| Refusal::new(
-        fault,
-    ))?;
+    let made = make_in_memory(&mut memory, &mut entries, &text).map_err(Refusal::new)?;
     write(rt, tmp.as_str(), made).context(format_args!("writing {tmp}"))?;
     fs::rename(rt, tmp.as_str(), file.as_str()).context(format_args!("renaming {tmp} to {file}"))?;
     Ok(ExitCode::SUCCESS)
