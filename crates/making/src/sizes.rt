@@ -24,7 +24,7 @@ impl FileSize {
         ensures enough { self.now.len ≤ result }
         ensures least { result < self.now.len + 512 }
     {
-        self.len.div_ceil(512) as usize * 512
+        (self.len as usize).next_multiple_of(512)
     }
 }
 
