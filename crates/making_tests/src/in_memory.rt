@@ -3,7 +3,10 @@
 use auditing::auditing::audit;
 use auditing::audits::Counts;
 use building::entries::Entry;
-use checks::check_eq;
+use c_calls::in_memory::find_in_memory;
+use checks::{check, check_eq};
+use dumping::dumping::dump;
+use faults::file::FileFault;
 use file::extents::Extent;
 use making::fault::MakeFault;
 use making::in_memory::make_in_memory;
@@ -42,6 +45,10 @@ fn refusals() -> Result<(), Fail> {
             records: 2,
             len: 2100,
         }),
+    )?;
+    check_eq(
+        made(&mut memory, &mut entries, b""),
+        Err(MakeFault::Text(TextFault::Malformed(0))),
     )?;
     let cut_short = &text[..20];
     check_eq(
@@ -126,5 +133,28 @@ fn a_hundred_thousand_records(rt: HostRuntime) -> Result<(), Fail> {
         Ok(size.len as usize),
     )?;
     let counts = audited(&memory, size.len).map(|(records, slots, _)| (records, slots));
-    check_eq(counts, Some((100_000, 200_000)))
+    check_eq(counts, Some((100_000, 200_000)))?;
+    let Ok(mut dumped) = vec![in heap; 0u8; text.len()] else {
+        return Err(Fail::new("memory"));
+    };
+    check_eq(dump(&memory, size.len, &mut dumped), Ok(text.len()))?;
+    check(dumped == text)?;
+    check_eq(
+        found(&memory, size.len, b"000000"),
+        Ok(Some(b"000000".as_slice())),
+    )?;
+    check_eq(
+        found(&memory, size.len, b"099999"),
+        Ok(Some(b"099999".as_slice())),
+    )?;
+    check_eq(found(&memory, size.len, b"100000"), Ok(None))
+}
+
+/// The data of the first record of a key in a file that was made.
+fn found<'a>(memory: &'a [u8], len: u32, key: &[u8]) -> Result<Option<&'a [u8]>, FileFault> {
+    let Some(data) = find_in_memory(memory, len, key, 0)? else {
+        return Ok(None);
+    };
+    let start = data.place as usize;
+    Ok(memory.get(start..start.saturating_add(data.len as usize)))
 }
