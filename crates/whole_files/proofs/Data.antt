@@ -1,5 +1,5 @@
 -- What a lookup finds lies in the file, and is the data of a record.
-use Rattle.std.proofs.Common.{◌≡◌, ℕ, zero, suc, ◌+◌, ◌≤◌, Bool, true, false, cond, List, [], ◌∷◌, take, Some, None, Ok, Err, Option, Result, sym, refl, ap, ◌∙◌, subst}
+use Rattle.std.proofs.Common.{◌≡◌, ℕ, zero, suc, ◌+◌, ◌≤◌, Bool, true, false, cond, List, [], ◌∷◌, map, filter, take, Some, None, Ok, Err, Option, Result, sym, refl, ap, ◌∙◌, subst}
 use Rattle.std.specs.Str.{bytes_eq}
 use Rattle.byte_lists.specs.Bytes.{part}
 use Rattle.faults.specs.declared.file.FileFault.{FileFault}
@@ -22,8 +22,9 @@ use Rattle.lookup.specs.Starts.{Start}
 use Rattle.lookup_runs.specs.Datas.{data_at, datas}
 use Rattle.lookup_nth.specs.Nths as nths
 use Rattle.lookup_nth.specs.Nths.{NthFrom, Nth}
+use Rattle.gathering.specs.Gathers.{data_with}
 use Rattle.c_calls.specs.InMemory.{Fits, FindsInMemory, FindGivesRecord}
-use Rattle.whole_files.specs.Wholes.{data_under, numbered}
+use Rattle.whole_files.specs.Wholes.{numbered}
 
 -- what is found lies in a file of this length
 abbrev Inside : ℕ → Result (Option Found) FileFault → Type 0
@@ -93,8 +94,12 @@ abbrev pub found_in : List ℕ → Option Found → Option (List ℕ)
 found_in f (Some x) = Some (part f x.place x.len)
 found_in f None = None
 
+-- the records with a key
+abbrev with_key : List Record → List ℕ → List Record
+with_key rs key = filter (λ (r : Record). bytes_eq r.key key) rs
+
 -- the places and lengths of the data of a key are those of the data of its records
-same_data : (f : List ℕ) (p end : ℕ) (rs : List Record) → Records f p end rs → (key : List ℕ) (n : ℕ) → found_in f (nths.numbered n (datas p rs key)) ≡ numbered n (data_under rs key)
+same_data : (f : List ℕ) (p end : ℕ) (rs : List Record) → Records f p end rs → (key : List ℕ) (n : ℕ) → found_in f (nths.numbered n (datas p rs key)) ≡ numbered n (data_with key rs)
 same_data f p end [] h key n = ends n
   where
     ends : (n : ℕ) → found_in f (nths.numbered n []) ≡ numbered n []
@@ -102,16 +107,16 @@ same_data f p end [] h key n = ends n
     ends (suc n) = refl
 same_data f p end (r ∷ rs) h key n = step (bytes_eq r.key key) n (same_data f (p + size r) end rs h.5 key)
   where
-    step : (b : Bool) (n : ℕ) → ((k : ℕ) → found_in f (nths.numbered k (datas (p + size r) rs key)) ≡ numbered k (data_under rs key))
+    step : (b : Bool) (n : ℕ) → ((k : ℕ) → found_in f (nths.numbered k (datas (p + size r) rs key)) ≡ numbered k (data_with key rs))
         → found_in f (nths.numbered n (cond b (data_at p r ∷ datas (p + size r) rs key) (datas (p + size r) rs key)))
-        ≡ numbered n (cond b (r.data' ∷ data_under rs key) (data_under rs key))
+        ≡ numbered n (map (λ (q : Record). q.data') (cond b (r ∷ with_key rs key) (with_key rs key)))
     step true zero later = ap (λ (x : List ℕ). Some x) h.3
     step true (suc n) later = later n
     step false n later = later n
 
 -- so for what the lookup by number finds
 pub given : (xs : List ℕ) (len : ℕ) (key : List ℕ) (n : ℕ) (o : Option Found) → Fits xs len → FindGivesRecord xs len key n (Ok o) → (rs : List Record) → Lawful (take len xs) rs
-    → numbered n (data_under rs key) ≡ found_in (take len xs) o
+    → numbered n (data_with key rs) ≡ found_in (take len xs) o
 given xs len key n o fits h rs law =
     let e : ◌≡◌ {A = Result (Option Found) FileFault} (Ok o) (Ok (nths.numbered n (datas 2048 rs key))) = h rs fits law in
     let q : nths.numbered n (datas 2048 rs key) ≡ o = cc in

@@ -1,8 +1,7 @@
 -- What is answered of a file that is read whole.
-use Rattle.std.specs.Prelude.{◌≡◌, ℕ, zero, suc, ◌<◌, cond, List, [], ◌∷◌, length, take, Some, None, Ok, Err, codes, Option, Result}
+use Rattle.std.specs.Prelude.{◌≡◌, ℕ, zero, suc, ◌<◌, List, [], ◌∷◌, length, take, Some, None, Ok, Err, codes, Option, Result}
 use Rattle.std.specs.Borrow.{Bor}
 use Rattle.std.specs.Global.{Vec}
-use Rattle.std.specs.Str.{bytes_eq}
 use Rattle.byte_lists.specs.Bytes.{part}
 use Rattle.faults.specs.declared.file.FileFault.{FileFault}
 use Rattle.faults.specs.declared.file.FileFault.TheVariants.{Range}
@@ -12,6 +11,7 @@ use Rattle.cdb.specs.Records.{Record}
 use Rattle.cdb.specs.Rules.{Lawful}
 use Rattle.cdb.specs.Verdicts.{refused, Judged}
 use Rattle.lookup.specs.declared.cursors.Found.{Found}
+use Rattle.gathering.specs.Gathers.{data_with}
 use Rattle.text.specs.Texts.{TextOf}
 use Rattle.c_calls.specs.InMemory.{FindsInMemory}
 use Rattle.whole_files.specs.declared.fault.WholeFault.{WholeFault}
@@ -45,11 +45,6 @@ Looked xs len key n (Ok (Some d)) = (x : Found) × FindsInMemory xs len key n (O
 Looked xs len key n (Ok None) = FindsInMemory xs len key n (Ok None)
 Looked xs len key n (Err x) = FindsInMemory xs len key n (Err x)
 
--- the data of the records with a key, in file order
-abbrev pub data_under : List Record → List ℕ → List (List ℕ)
-data_under [] key = []
-data_under (r ∷ rs) key = cond (bytes_eq r.key key) (r.data' ∷ data_under rs key) (data_under rs key)
-
 -- number n of these, counted from 0, or none past the last
 abbrev pub numbered : ℕ → List (List ℕ) → Option (List ℕ)
 numbered n [] = None
@@ -64,4 +59,4 @@ Answered o (Err x) = ⊥
 
 -- in a lawful file f with these records it is number n of the data of the records with the key
 abbrev pub GivesData : List ℕ → List ℕ → ℕ → Result (Option (Bor (List ℕ))) FileFault → Type 0
-GivesData f key n r = (rs : List Record) → Lawful f rs → Answered (numbered n (data_under rs key)) r
+GivesData f key n r = (rs : List Record) → Lawful f rs → Answered (numbered n (data_with key rs)) r
