@@ -32,7 +32,7 @@ use Rattle.making.proofs.Written.{flat_append}
 use Rattle.shelf_making.specs.declared.fault.ShelfMakeFault.{ShelfMakeFault}
 use Rattle.shelf_making.specs.declared.fault.ShelfMakeFault.TheVariants.{Shelf}
 use Rattle.shelf_making.specs.declared.fault.MakeRefused.{MakeRefused}
-use Rattle.shelf_making.specs.Adding.{Added}
+use Rattle.shelf_making.specs.Adding.{AddedAll}
 use Rattle.shelf_making.specs.Ending.{finish_refused, publish_refused}
 use Rattle.shelf_making.specs.Makes.{Makes, add_refused, ended}
 use Rattle.shelf_making.specs.Laws.{ShelfCause, FaultCause, RefusedForCause}
@@ -43,7 +43,7 @@ module _ (m : Meaning) (s : states.Shelf) (d : Draft) (es : List Entry) (whole :
   abbrev l : Live
   l = live_of s
 
-  module _ (done : List Record) (e : Draft) (k : Meaning) (fs : List Entry) (w : Added m d es done e k fs) where
+  module _ (done : List Record) (e : Draft) (k : Meaning) (fs : List Entry) (w : AddedAll m d es done e k fs) where
     c : Chained m d es done e k fs
     c = chained w
 

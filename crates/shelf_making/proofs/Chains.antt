@@ -16,7 +16,7 @@ use Rattle.shelf.specs.Adds.{next_place, entry_of, Adds}
 use Rattle.shelf.specs.Drafts as drafts
 use Rattle.shelf.proofs.Inside.{Long, on_device}
 use Rattle.shelf.proofs.Standing.{joined_push}
-use Rattle.shelf_making.specs.Adding.{Added, none, more}
+use Rattle.shelf_making.specs.Adding.{AddedAll, none, more}
 
 -- what these adds leave of the draft and of the device
 pub record Chained (m : Meaning) (d : Draft) (es : List Entry) (rs : List Record) (e : Draft) (n : Meaning) (fs : List Entry) : Type 0 where
@@ -50,7 +50,7 @@ push_one {m} {d} {es} {rs} {e} {g} {n} {o} {fs} {gs} r c a =
           subst (λ (q : List ℕ). Completed m (next_place d) q o) (sym j) (runs_both m n o (next_place d) R (record_bytes r) (Ok tt) inside k v);
     }
 
-pub chained : {m : Meaning} {d : Draft} {es : List Entry} {rs : List Record} {e : Draft} {n : Meaning} {fs : List Entry} → Added m d es rs e n fs → Chained m d es rs e n fs
+pub chained : {m : Meaning} {d : Draft} {es : List Entry} {rs : List Record} {e : Draft} {n : Meaning} {fs : List Entry} → AddedAll m d es rs e n fs → Chained m d es rs e n fs
 chained {m} {d} {es} none = record {
   sectors = refl;
   live = refl;
@@ -62,6 +62,6 @@ chained {m} {d} {es} none = record {
 chained (more r w a) = push_one r (chained w) a
 
 -- such adds are those since the begin of a draft
-pub drafted : {m : Meaning} {d : Draft} {es : List Entry} {rs : List Record} {e : Draft} {n : Meaning} {fs : List Entry} (s : Shelf) → Whole m → Begun s d → Added m d es rs e n fs → drafts.Drafted n e fs rs
+pub drafted : {m : Meaning} {d : Draft} {es : List Entry} {rs : List Record} {e : Draft} {n : Meaning} {fs : List Entry} (s : Shelf) → Whole m → Begun s d → AddedAll m d es rs e n fs → drafts.Drafted n e fs rs
 drafted {es = es} s w b none = drafts.begun es w b
 drafted s w b (more r h a) = drafts.added r (drafted s w b h) a

@@ -16,7 +16,7 @@ use Rattle.shelf.specs.declared.refusals.Refused.{Refused}
 use Rattle.shelf.specs.declared.states.Draft.{Draft}
 use Rattle.shelf.specs.Adds.{Adds}
 use Rattle.making.proofs.Walking.{Handed, handed, ended}
-use Rattle.shelf_making.specs.Adding.{Added, none, more, AddsAll, AddsText}
+use Rattle.shelf_making.specs.Adding.{AddedAll, none, more, AddsAll, AddsText}
 
 pub record Adding (m : Meaning) (d : Draft) (es : List Entry) (t : List ℕ) (q : ℕ) (e : Draft) (n : Meaning) (fs : List Entry) : Type 0 where
   pub list : List Record
@@ -25,7 +25,7 @@ pub record Adding (m : Meaning) (d : Draft) (es : List Entry) (t : List ℕ) (q 
   pub todo : List Record
   pub among : list ≡ done ++ todo
   pub ahead : TextOf (drop q t) todo
-  pub added : Added m d es done e n fs
+  pub added : AddedAll m d es done e n fs
 
 pub begun : (m : Meaning) (d : Draft) (es : List Entry) (t : List ℕ) → Text t → Adding m d es t 0 d m es
 begun m d es t (rs, h) = record { list = rs; text = h; done = []; todo = rs; among = refl; ahead = h; added = none }
@@ -90,10 +90,10 @@ module _ (m : Meaning) (d : Draft) (es : List Entry) (t : List ℕ) (q : ℕ) (e
   all h =
       let none_left : w.todo ≡ [] = ended t q u w.todo w.ahead h in
       let same : w.done ≡ w.list = sym (append-nil w.done) ∙ ap (λ (z : List Record). w.done ++ z) (sym none_left) ∙ sym w.among in
-      (w.list, w.text, subst (λ (z : List Record). Added m d es z e n fs) same w.added)
+      (w.list, w.text, subst (λ (z : List Record). AddedAll m d es z e n fs) same w.added)
 
 -- so for a list of records
-module _ (m : Meaning) (d : Draft) (es : List Entry) (xs : List LentRecord) (i : ℕ) (e : Draft) (n : Meaning) (fs : List Entry) (w : Added m d es (map lent (take i xs)) e n fs) where
+module _ (m : Meaning) (d : Draft) (es : List Entry) (xs : List LentRecord) (i : ℕ) (e : Draft) (n : Meaning) (fs : List Entry) (w : AddedAll m d es (map lent (take i xs)) e n fs) where
   module _ (z : LentRecord) (l : i < length xs) where
     abbrev x : LentRecord
     x = get_or xs i z
@@ -101,8 +101,8 @@ module _ (m : Meaning) (d : Draft) (es : List Entry) (xs : List LentRecord) (i :
     front : map lent (take (i + 1) xs) ≡ map lent (take i xs) ++ lent x ∷ []
     front = ap (map lent) (take_at_read xs i z l).1 ∙ map_push lent (take i xs) x
 
-    pub listed_more : (g : Draft) (o : Meaning) (gs : List Entry) → Adds n e fs (lent x) (Ok g) o gs → Added m d es (map lent (take (i + 1) xs)) g o gs
-    listed_more g o gs a = subst (λ (q : List Record). Added m d es q g o gs) (sym front) (more (lent x) w a)
+    pub listed_more : (g : Draft) (o : Meaning) (gs : List Entry) → Adds n e fs (lent x) (Ok g) o gs → AddedAll m d es (map lent (take (i + 1) xs)) g o gs
+    listed_more g o gs a = subst (λ (q : List Record). AddedAll m d es q g o gs) (sym front) (more (lent x) w a)
 
     split : map lent xs ≡ map lent (take i xs) ++ lent x ∷ map lent (drop (i + 1) xs)
     split =
@@ -125,4 +125,4 @@ module _ (m : Meaning) (d : Draft) (es : List Entry) (xs : List LentRecord) (i :
     }
 
   pub listed_all : length xs ≤ i → AddsAll m d es (map lent xs) (Ok e) n fs
-  listed_all l = subst (λ (q : List LentRecord). Added m d es (map lent q) e n fs) (take_all i xs l) w
+  listed_all l = subst (λ (q : List LentRecord). AddedAll m d es (map lent q) e n fs) (take_all i xs l) w

@@ -34,7 +34,7 @@ use Rattle.shelf_making.specs.declared.fault.ShelfMakeFault.{ShelfMakeFault}
 use Rattle.shelf_making.specs.declared.fault.MakeRefused.{MakeRefused}
 use Rattle.shelf_making.specs.Reports.{make_report}
 use Rattle.shelf_making.specs.Refusals.{ComesBack, AfterPublish, GivesFinishedBack}
-use Rattle.shelf_making.specs.Adding.{Added}
+use Rattle.shelf_making.specs.Adding.{AddedAll}
 use Rattle.shelf_making.specs.Ending.{published, finish_refused, publish_refused}
 use Rattle.shelf_making.specs.Makes.{Makes, add_refused, ended}
 use Rattle.shelf_making.specs.Laws.{OutsideIdle, NewRoot, Renewed, Unchanged, CutAtRoot, KeepsLive}
@@ -43,7 +43,7 @@ use Rattle.shelf_making.proofs.Staying.{add_unchanged, finish_unchanged}
 use Rattle.shelf_making.proofs.Ready as ready
 
 module _ (m : Meaning) (s : states.Shelf) (d : Draft) (es : List Entry) (rs : List Record) (e : Draft) (k : Meaning) (fs : List Entry) (f : Finished) (j : Meaning)
-    (whole : Whole m) (b : Begun s d) (w : Added m d es rs e k fs) (fin : Finishes k e fs (Ok f) j) where
+    (whole : Whole m) (b : Begun s d) (w : AddedAll m d es rs e k fs) (fin : Finishes k e fs (Ok f) j) where
   abbrev l : Live
   l = live_of s
 

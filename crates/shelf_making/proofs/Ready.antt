@@ -29,14 +29,14 @@ use Rattle.shelf.specs.Drafts.{finished_file}
 use Rattle.shelf.proofs.Inside.{Long, long_after, area_on, finish_inside}
 use Rattle.shelf.proofs.Held.{finish_after_adds_is_lawful}
 use Rattle.making.specs.Sizes.{made_length}
-use Rattle.shelf_making.specs.Adding.{Added}
+use Rattle.shelf_making.specs.Adding.{AddedAll}
 use Rattle.shelf_making.specs.Laws.{OutsideIdle}
 use Rattle.shelf_making.proofs.Chains.{Chained, chained, drafted}
 use Rattle.shelf_making.proofs.Staying.{both, inside, live_then}
 use Rattle.shelf_making.proofs.Lawless.{not_refused}
 
 module _ (m : Meaning) (s : Shelf) (d : Draft) (es : List Entry) (rs : List Record) (e : Draft) (k : Meaning) (fs : List Entry) (f : Finished) (j : Meaning)
-    (whole : Whole m) (b : Begun s d) (w : Added m d es rs e k fs) (fin : Finishes k e fs (Ok f) j) where
+    (whole : Whole m) (b : Begun s d) (w : AddedAll m d es rs e k fs) (fin : Finishes k e fs (Ok f) j) where
   abbrev l : Live
   l = live_of s
 

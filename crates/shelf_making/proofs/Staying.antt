@@ -13,7 +13,7 @@ use Rattle.shelf.specs.Finishes.{Finishes}
 use Rattle.shelf.proofs.Inside.{Long, long_after, add_inside, finish_inside}
 use Rattle.shelf_making.specs.declared.fault.MakeRefused.{MakeRefused}
 use Rattle.shelf_making.specs.Refusals.{ComesBack, GivesDraftBack}
-use Rattle.shelf_making.specs.Adding.{Added, none, more, AddStopped}
+use Rattle.shelf_making.specs.Adding.{AddedAll, none, more, ListStopped}
 use Rattle.shelf_making.specs.Laws.{OutsideIdle, Unchanged}
 use Rattle.shelf_making.proofs.Chains.{chained}
 
@@ -21,7 +21,7 @@ use Rattle.shelf_making.proofs.Chains.{chained}
 pub both : (m n o : Meaning) (l : Live) → Keeps m (OutsideIdle l) n → Keeps n (OutsideIdle l) o → Keeps m (OutsideIdle l) o
 both m n o l a b = keeps_both m n o _ _ _ a b (λ k out. out) (λ k out. out)
 
-pub added_inside : {m : Meaning} {d : Draft} {es : List Entry} {rs : List Record} {e : Draft} {n : Meaning} {fs : List Entry} → Long m → Added m d es rs e n fs → Keeps m (OutsideIdle (live_at_draft d)) n
+pub added_inside : {m : Meaning} {d : Draft} {es : List Entry} {rs : List Record} {e : Draft} {n : Meaning} {fs : List Entry} → Long m → AddedAll m d es rs e n fs → Keeps m (OutsideIdle (live_at_draft d)) n
 added_inside {m} long none = keeps_all m _
 added_inside {m} {d} long (more {rs} {e} {g} {n} {o} {fs} {gs} r w a) =
     let k = added_inside long w in
@@ -29,13 +29,13 @@ added_inside {m} {d} long (more {rs} {e} {g} {n} {o} {fs} {gs} r w a) =
     both m n o (live_at_draft d) k (subst (λ (q : Live). Keeps n (OutsideIdle q) o) (chained w).live i)
 
 module _ (m : Meaning) (s : Shelf) (d : Draft) (es : List Entry) (rs : List Record) (long : Long m) (b : Begun s d) where
-  pub inside : {e : Draft} {n : Meaning} {fs : List Entry} → Added m d es rs e n fs → Keeps m (OutsideIdle (live_of s)) n
+  pub inside : {e : Draft} {n : Meaning} {fs : List Entry} → AddedAll m d es rs e n fs → Keeps m (OutsideIdle (live_of s)) n
   inside {n = n} w = subst (λ (q : Live). Keeps m (OutsideIdle q) n) b.live (added_inside long w)
 
-  pub live_then : {e : Draft} {n : Meaning} {fs : List Entry} → Added m d es rs e n fs → live_at_draft e ≡ live_of s
+  pub live_then : {e : Draft} {n : Meaning} {fs : List Entry} → AddedAll m d es rs e n fs → live_at_draft e ≡ live_of s
   live_then w = (chained w).live ∙ b.live
 
-  pub finish_unchanged : {k n : Meaning} {fs : List Entry} {e : Draft} (x : Refused Draft) (y : MakeRefused) → Added m d es rs e k fs → Finishes k e fs (Err x) n → GivesDraftBack x y
+  pub finish_unchanged : {k n : Meaning} {fs : List Entry} {e : Draft} (x : Refused Draft) (y : MakeRefused) → AddedAll m d es rs e k fs → Finishes k e fs (Err x) n → GivesDraftBack x y
       → Unchanged m (live_of s) n y
   finish_unchanged {k} {n} {fs} {e} x y w h back =
       let i = inside w in
@@ -47,7 +47,7 @@ module _ (m : Meaning) (s : Shelf) (d : Draft) (es : List Entry) (rs : List Reco
       }
 
 pub add_unchanged : (m : Meaning) (s : Shelf) (d : Draft) (es : List Entry) (rs : List Record) → Long m → Begun s d → {n : Meaning} {fs : List Entry} (x : Refused Draft) (y : MakeRefused)
-    → AddStopped m d es rs x n fs → GivesDraftBack x y → Unchanged m (live_of s) n y
+    → ListStopped m d es rs x n fs → GivesDraftBack x y → Unchanged m (live_of s) n y
 add_unchanged m s d es rs long b {n} {fs} x y h back =
     let i = inside m s d es h.before long b h.added in
     let l : live_at_draft h.draft ≡ live_of s = live_then m s d es h.before long b h.added in

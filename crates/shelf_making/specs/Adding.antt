@@ -9,13 +9,13 @@ use Rattle.shelf.specs.declared.states.Draft.{Draft}
 use Rattle.shelf.specs.Adds.{Adds}
 
 -- adds that are done, each on what the one before left: draft, device and entry memory then
-pub data Added (m : Meaning) (d : Draft) (es : List Entry) : List Record → Draft → Meaning → List Entry → Type 0 where
-  none : Added m d es [] d m es
+pub data AddedAll (m : Meaning) (d : Draft) (es : List Entry) : List Record → Draft → Meaning → List Entry → Type 0 where
+  none : AddedAll m d es [] d m es
   more : {rs : List Record} {e g : Draft} {n o : Meaning} {fs gs : List Entry} (r : Record)
-      → Added m d es rs e n fs → Adds n e fs r (Ok g) o gs → Added m d es (rs ++ r ∷ []) g o gs
+      → AddedAll m d es rs e n fs → Adds n e fs r (Ok g) o gs → AddedAll m d es (rs ++ r ∷ []) g o gs
 
 -- some of the records were added, and the next one is refused
-pub record AddStopped (m : Meaning) (d : Draft) (es : List Entry) (rs : List Record) (x : Refused Draft) (n : Meaning) (fs : List Entry) : Type 0 where
+pub record ListStopped (m : Meaning) (d : Draft) (es : List Entry) (rs : List Record) (x : Refused Draft) (n : Meaning) (fs : List Entry) : Type 0 where
   pub before : List Record
   pub next : Record
   pub after : List Record
@@ -23,13 +23,13 @@ pub record AddStopped (m : Meaning) (d : Draft) (es : List Entry) (rs : List Rec
   pub draft : Draft
   pub between : Meaning
   pub entries : List Entry
-  pub added : Added m d es before draft between entries
+  pub added : AddedAll m d es before draft between entries
   pub refused : Adds between draft entries next (Err x) n fs
 
 -- all records are added, or one of them is refused
 abbrev pub AddsAll : Meaning → Draft → List Entry → List Record → Result Draft (Refused Draft) → Meaning → List Entry → Type 0
-AddsAll m d es rs (Ok e) n fs = Added m d es rs e n fs
-AddsAll m d es rs (Err x) n fs = AddStopped m d es rs x n fs
+AddsAll m d es rs (Ok e) n fs = AddedAll m d es rs e n fs
+AddsAll m d es rs (Err x) n fs = ListStopped m d es rs x n fs
 
 -- so for the records of a text
 abbrev pub AddsText : Meaning → Draft → List Entry → List ℕ → Result Draft (Refused Draft) → Meaning → List Entry → Type 0

@@ -13,15 +13,15 @@ use Rattle.shelf.specs.States.{Begun}
 use Rattle.shelf_making.specs.declared.fault.ShelfMakeFault.TheVariants.{Text}
 use Rattle.shelf_making.specs.declared.fault.MakeRefused.{MakeRefused}
 use Rattle.shelf_making.specs.Refusals.{GivesDraftBack}
-use Rattle.shelf_making.specs.Adding.{Added, AddStopped}
+use Rattle.shelf_making.specs.Adding.{AddedAll, ListStopped}
 use Rattle.shelf_making.specs.Ending.{EndsDraft}
 
 -- a draft is begun and the records are added; then it is finished and published; the first call that is refused ends it
 pub data Makes (m : Meaning) (s : states.Shelf) (es : List Entry) (rs : List Record) : Result states.Shelf MakeRefused → Meaning → List Entry → Type 0 where
   add_refused : {n : Meaning} {fs : List Entry} {d : Draft} {y : MakeRefused} (x : Refused Draft)
-      → Begun s d → AddStopped m d es rs x n fs → GivesDraftBack x y → Makes m s es rs (Err y) n fs
+      → Begun s d → ListStopped m d es rs x n fs → GivesDraftBack x y → Makes m s es rs (Err y) n fs
   ended : {k n : Meaning} {fs : List Entry} {d e : Draft} {r : Result states.Shelf MakeRefused}
-      → Begun s d → Added m d es rs e k fs → EndsDraft k e fs r n → Makes m s es rs r n fs
+      → Begun s d → AddedAll m d es rs e k fs → EndsDraft k e fs r n → Makes m s es rs r n fs
 
 -- a malformed text is refused, and nothing is begun
 pub record TextRefused (m : Meaning) (s : states.Shelf) (es : List Entry) (t : List ℕ) (r : Result states.Shelf MakeRefused) (n : Meaning) (fs : List Entry) : Type 0 where
