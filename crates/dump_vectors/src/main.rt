@@ -6,7 +6,7 @@ use std::fs;
 use whole_files::whole::WholeFile;
 
 fn main(rt: HostRuntime) -> anyhow::Result<()> {
-    for name in &[
+    for name in [
         "none",
         "one",
         "repeat",
@@ -16,7 +16,7 @@ fn main(rt: HostRuntime) -> anyhow::Result<()> {
     ] {
         dump_back(&rt, name)?;
     }
-    for name in &[
+    for name in [
         "made-1-19",
         "made-2-13",
         "made-3-1",

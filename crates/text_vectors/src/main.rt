@@ -18,7 +18,7 @@ use text::whole::{read_records, tally};
 use text_writer::writing::write_text;
 
 fn main(rt: HostRuntime) -> anyhow::Result<()> {
-    for name in &[
+    for name in [
         "none",
         "one",
         "repeat",
@@ -28,7 +28,7 @@ fn main(rt: HostRuntime) -> anyhow::Result<()> {
     ] {
         both(&rt, name)?;
     }
-    for name in &[
+    for name in [
         "made-1-19",
         "made-1-6",
         "made-1-63",
