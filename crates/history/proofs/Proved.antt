@@ -71,7 +71,7 @@ open_finds_the_shelf m n k h s x hist re o =
     by_refusal k g.live x (rooted_same g.live n k (same_bytes g.live n k re.sectors re.bytes) g.rooted) o
 
 -- the file of the live extent
-extent_file : (m : Meaning) (e : Extent) (l : Live) → LiveExtent l e → file m e ≡ live_file m l
+pub extent_file : (m : Meaning) (e : Extent) (l : Live) → LiveExtent l e → file m e ≡ live_file m l
 extent_file m e l x = ap (λ (q : ℕ). part m.bytes q e.len) x.0 ∙ ap (λ (q : ℕ). part m.bytes (area_start l.sectors l.area) q) x.1
 
 -- a history that went on from a device on which an extent is live: it is live still, with the same bytes

@@ -1,7 +1,6 @@
 -- A lookup of all data of a key gives what is published.
-use Rattle.std.proofs.Common.{◌≡◌, ℕ, List, Some, Ok, Err, Result, sym, ap, ◌∙◌, subst}
+use Rattle.std.proofs.Common.{◌≡◌, ℕ, List, Some, Ok, Err, Result, sym, subst}
 use Rattle.std.specs.Global.{Vec}
-use Rattle.byte_lists.specs.Bytes.{part}
 use Rattle.faults.specs.declared.file.FileFault.{FileFault}
 use Rattle.device.specs.Meanings.{Meaning}
 use Rattle.cdb.specs.Records.{Record}
@@ -11,12 +10,11 @@ use Rattle.file.specs.Extents.{file, Readable}
 use Rattle.gathering.specs.declared.gather.GatherFault.TheVariants.{File}
 use Rattle.gathering.specs.Gathers.{data_with}
 use Rattle.gathering.proofs.Gathering.{gathers_records}
-use Rattle.areas.specs.Geometry.{area_start}
 use Rattle.shelf.specs.States.{Live, LiveExtent}
 use Rattle.history.specs.declared.calls.State.{State}
 use Rattle.history.specs.declared.calls.State.TheVariants.{Idle, Adding, Ready, Ended}
 use Rattle.history.specs.Laws.{live_file, Tells}
-use Rattle.history.proofs.Proved.{histories_keep_published}
+use Rattle.history.proofs.Proved.{extent_file, histories_keep_published}
 use Rattle.playing.specs.Steps.{Shows, Looked}
 use Rattle.playing.specs.Laws.{IsData, GetsGivePublished}
 
@@ -26,9 +24,6 @@ shown_live (Idle s) e l x t = subst (λ (k : Live). LiveExtent k e) t x
 shown_live (Adding d) e l x t = subst (λ (k : Live). LiveExtent k e) t x
 shown_live (Ready f) e l x t = subst (λ (k : Live). LiveExtent k e) t x
 shown_live Ended e l x t = absurd x
-
-extent_file : (m : Meaning) (e : Extent) (l : Live) → LiveExtent l e → file m e ≡ live_file m l
-extent_file m e l x = ap (λ (q : ℕ). part m.bytes q e.len) x.0 ∙ ap (λ (q : ℕ). part m.bytes (area_start l.sectors l.area) q) x.1
 
 looked_data : (m : Meaning) (e : Extent) (rs : List Record) (key : List ℕ) (r : Result (Vec (Vec ℕ)) FileFault) → Readable m e → Lawful (file m e) rs → Looked m e key r → IsData r (data_with key rs)
 looked_data m e rs key (Ok all) rd law g = gathers_records m e key (Ok all) g rs rd law
