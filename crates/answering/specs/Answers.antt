@@ -22,6 +22,11 @@ answer_verdict (Err f) = refused (input_report f)
 abbrev pub Answers : List ℕ → Result Counts InputFault → Type 0
 Answers input r = ((61440 < length input) × (r ≡ Err Long)) ⊎ ((length input ≤ 61440) × Judged input (answer_verdict r))
 
+-- an answer with its refusal as the line tells it
+abbrev pub told : Result Counts InputFault → Result Counts Report
+told (Ok c) = Ok c
+told (Err f) = Err (input_report f)
+
 -- ok and three counts, or no and a refusal's number, table and place; then a line feed
 abbrev pub line_of : Result Counts Report → List ℕ
 line_of (Ok c) = codes "ok," ++ (counts_text c ++ codes "\n")

@@ -2,8 +2,7 @@
 #![tactic(auto)]
 
 use answering::input::audit_input;
-use answering::line::line;
-use faults::report::Report;
+use answering::line::answer_line;
 use std::io;
 use std::io::Read;
 
@@ -12,6 +11,6 @@ fn main(rt: HostRuntime) -> io::Result<()> {
     // One byte past the limit is enough to see that an input is too long.
     let mut input = Vec::new(heap);
     rt.stdin().take(61441).read_to_end(&mut input)?;
-    let told = line(heap, audit_input(&input).map_err(Report::from))?;
+    let told = answer_line(heap, audit_input(&input))?;
     print!(rt; "{told}")
 }

@@ -2,8 +2,7 @@
 #![tactic(auto)]
 
 use answering::input::audit_input;
-use answering::line::line;
-use faults::report::Report;
+use answering::line::answer_line;
 use std::{env, fs, io};
 
 fn main(rt: HostRuntime) -> io::Result<()> {
@@ -11,7 +10,7 @@ fn main(rt: HostRuntime) -> io::Result<()> {
     let names = env::args(&rt)?;
     for name in names.skip(1) {
         let file = fs::read(&rt, name.as_str())?;
-        let told = line(heap, audit_input(&file).map_err(Report::from))?;
+        let told = answer_line(heap, audit_input(&file))?;
         print!(rt; "{name} {told}")?;
     }
     Ok(())
