@@ -1,3 +1,4 @@
+pub mod Digits
 pub mod Laying
 pub mod Back
 pub mod Telling
