@@ -159,7 +159,7 @@ module _ (m : Meaning) (e : Extent) where
     short : length (file m e) < 2 ^ 32
     short = omega (arith, length_part m.bytes e.start e.len, e.bounded)
 
-    accepted_made : (r : Result Counts FileFault) → Audited m e r → AcceptedExactlyWhenMade m e r
+    pub accepted_made : (r : Result Counts FileFault) → Audited m e r → AcceptedExactlyWhenMade m e r
     accepted_made (Ok c) h readable =
         let k = kept (file m e) (verdict (Ok c)) h.1 in
         (k.0, (lawful_exactly (file m e) k.0 bytes short).0 k.1, (k.2, k.3, k.4))

@@ -3,7 +3,7 @@ use Rattle.std.proofs.Common.{◌≡◌, ℕ, zero, suc, ◌+◌, ◌*◌, ◌/�
 use Rattle.std.proofs.lemmas.List.Sums.{sum_by-cons, sum_by-take-le, count_by_more_yes, length-filter}
 use Rattle.std.proofs.lemmas.List.Elements.{filter_more}
 use Rattle.std.proofs.lemmas.Bool.{cases_lt, cases_eq, eq-eqb, ne_eqb}
-use Rattle.std.proofs.lemmas.List.{length_push, length-map, map-append, append-nil, take_all}
+use Rattle.std.proofs.lemmas.List.{length-replicate, length-set, length_push, length-map, map-append, append-nil, take_all}
 use Rattle.byte_lists.specs.Bytes.{word_at}
 use Rattle.device.specs.Meanings.{Meaning}
 use Rattle.cdb.specs.Tables.{Slot, blank, slot, home, slot_away, Fills, start, put}
@@ -39,6 +39,10 @@ set_count (y ∷ s) (suc k) x = omega (arith, sum_by-cons one y (set s k x), sum
 blank_count : (n : ℕ) → count_by taken (replicate n blank) ≡ 0
 blank_count zero = refl
 blank_count (suc n) = omega (arith, sum_by-cons one blank (replicate n blank), blank_count n)
+
+pub fill_long : {len : ℕ} {xs s : List Slot} → Fills len xs s → length s ≡ len
+fill_long {len} start = length-replicate len blank
+fill_long (put {xs} {s} {t} {x} f p) = ap length p.after ∙ length-set s _ x ∙ fill_long f
 
 pub fill_count : {len : ℕ} {xs s : List Slot} → Fills len xs s → count_by taken s ≤ length xs
 fill_count {len} start = omega (arith, blank_count len)
@@ -91,10 +95,10 @@ module _ (m n o : Meaning) (from : ℕ) (es : List Entry) (i : ℕ) (l : i < len
   abbrev mine : ℕ
   mine = (entry_at es i).hash % 256
 
-  abbrev pos_of : ℕ
+  abbrev pub pos_of : ℕ
   pos_of = start_of from es mine
 
-  abbrev len_of : ℕ
+  abbrev pub len_of : ℕ
   len_of = 2 * count_of mine es
 
   mine_in : pos_of + 8 * len_of ≤ from + 16 * length es
@@ -123,7 +127,7 @@ module _ (m n o : Meaning) (from : ℕ) (es : List Entry) (i : ℕ) (l : i < len
   mine_out : (k : ℕ) → Outside from (16 * length es) k → Outside pos_of (8 * len_of) k
   mine_out k h = let c = mine_in in outside_part from (16 * length es) pos_of (8 * len_of) k (omega arith) (omega arith) h
 
-  filled_more : FilledWith m from es (take i es) n → PutInto n pos_of len_of (slot_of (entry_at es i)) o → FilledWith m from es (take (i + 1) es) o
+  pub filled_more : FilledWith m from es (take i es) n → PutInto n pos_of len_of (slot_of (entry_at es i)) o → FilledWith m from es (take (i + 1) es) o
   filled_more b p = record {
     keeps = keeps_both m n o _ _ _ b.keeps p.keeps (λ k h. h) mine_out;
     power = p.power ∙ b.power;
@@ -134,19 +138,19 @@ module _ (m n o : Meaning) (from : ℕ) (es : List Entry) (i : ℕ) (l : i < len
     tables = grown b p;
   }
 
-  filled_within : FilledWith m from es (take i es) n → from + 16 * length es ≤ 512 * m.sectors → pos_of + 8 * len_of ≤ 512 * n.sectors
+  pub filled_within : FilledWith m from es (take i es) n → from + 16 * length es ≤ 512 * m.sectors → pos_of + 8 * len_of ≤ 512 * n.sectors
   filled_within b h = let s : n.sectors ≡ m.sectors = b.keeps.sectors in let c = mine_in in omega arith
 
-  filled_reads : FilledWith m from es (take i es) n → AllRead n pos_of (8 * len_of)
+  pub filled_reads : FilledWith m from es (take i es) n → AllRead n pos_of (8 * len_of)
   filled_reads b =
       let c = mine_in in
       good_range n pos_of (8 * len_of) (λ z. b.power ∙ b.on (omega arith))
       (λ s t. bad_after m n s b.keeps.condition ∙ b.good s (omega arith, omega (arith, t.1), omega (arith, t.2)))
 
-  filled_room : FilledWith m from es (take i es) n → HasRoom n.bytes pos_of len_of (entry_at es i).hash
+  pub filled_room : FilledWith m from es (take i es) n → HasRoom n.bytes pos_of len_of (entry_at es i).hash
   filled_room b = room_in n.bytes pos_of len_of (entry_at es i).hash (puts_into mine (take i es)) (b.tables mine (omega arith)) (omega (arith, order_room es i l))
 
-  filled_lost : FilledWith m from es (take i es) n → Lost n pos_of (8 * len_of) o → Lost m from (16 * length es) o
+  pub filled_lost : FilledWith m from es (take i es) n → Lost n pos_of (8 * len_of) o → Lost m from (16 * length es) o
   filled_lost b g =
       let c = mine_in in
       record {

@@ -54,6 +54,9 @@ slot_inside pos len hash j p l e =
 slot_in : (bytes : List ℕ) (pos len hash p : ℕ) → Nearest bytes pos len hash p → (pos ≤ p) × (p + 8 ≤ pos + 8 * len)
 slot_in bytes pos len hash p near = slot_inside pos len hash near.distance p near.within near.is
 
+pub near_inside : (bytes : List ℕ) (pos len hash p : ℕ) → Nearest bytes pos len hash p → p + 8 ≤ pos + 8 * len
+near_inside bytes pos len hash p near = (slot_in bytes pos len hash p near).1
+
 module _ (m o : Meaning) (pos len p : ℕ) (x : Slot) (w : Whole m) (i : pos + 8 * len ≤ 512 * m.sectors) (u : AllRead m pos (8 * len)) (near : Nearest m.bytes pos len x.hash p) where
   at_start : pos ≤ p
   at_start = (slot_in m.bytes pos len x.hash p near).0

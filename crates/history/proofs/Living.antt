@@ -48,6 +48,9 @@ same_bytes l m n s b = record {
 pub same_device : (l : Live) (m n : Meaning) → n ≡ m → Same l m n
 same_device l m n e = same_bytes l m n (ap (λ (q : Meaning). q.sectors) e) (ap (λ (q : Meaning). q.bytes) e)
 
+pub same_both : (l : Live) (m n k : Meaning) → Same l m n → Same l n k → Same l m k
+same_both l m n k a b = record { sectors = b.sectors ∙ a.sectors; long = b.long ∙ a.long; root = b.root ∙ a.root; file = b.file ∙ a.file }
+
 module _ (l : Live) (m n : Meaning) where
   pub long_same : Same l m n → Long m → Long n
   long_same s h = s.long ∙ h ∙ ap (λ (q : ℕ). 512 * q) (sym s.sectors)
